@@ -1,0 +1,179 @@
+-- What a path that is in order and a model that passes its checks tell of the numbers, and the checks of a model by cases.
+use mathlib.Core.Path.{_≡_, refl, ap, sym, _∙_}
+use mathlib.Core.Bool.{Bool, true, false, _&&_}
+use mathlib.Core.Logic.{⊎-elim}
+use mathlib.Core.List.{List, [], _∷_}
+use Prim.Native.Nat.{ℕ, zero, suc, _≤_, _<_}
+use native.Mathlib.Nat.{eq-or-lt-of-le}
+use native.Mathlib.Omega.{arith}
+use lib.Dec.{ltb, leb}
+use lib.ListN.{getD, length}
+use borrow.Author.Tests.{ltb-true, leb-true}
+use Rattle.path.specs.Model.{Model, model, pathOf}
+use Rattle.path.specs.Refusal.{maxSize, maxLoss, inRange, follows, ordered, validPath, sizeAbove, lossBelow, check, modelChecks, refusalOf, roomFor}
+use Rattle.path.specs.Scan.{Comparable, Ready}
+use Rattle.path.proofs.Paths.{entry, ordered-turn}
+use Rattle.path.proofs.Checks.{both, passed, check-fails, check-passes}
+
+-- a model in range
+pub record Within (m : Model) : Type 0 where
+  pub positive : 1 ≤ m .size
+  pub small : m .size ≤ maxSize
+  pub low : m .loss ≤ maxLoss
+
+pub within : (m : Model) → inRange m ≡ true → Within m
+within m h =
+    let a = both (leb 1 (m .size) && leb (m .size) maxSize) (leb (m .loss) maxLoss) h in
+    let b = both (leb 1 (m .size)) (leb (m .size) maxSize) (a .0) in
+    record { positive = leb-true _ _ (b .0); small = leb-true _ _ (b .1); low = leb-true _ _ (a .1) }
+
+-- d comes before e: a smaller size and a larger loss
+pub record Before (d e : Model) : Type 0 where
+  pub sizes : d .size < e .size
+  pub losses : e .loss < d .loss
+
+pub before-trans : {d e f : Model} → Before d e → Before e f → Before d f
+before-trans g h = record { sizes = omega arith; losses = omega arith }
+
+pub follows-before : (d e : Model) → follows d e ≡ true → Before d e
+follows-before d e h =
+    let a = both (ltb (d .size) (e .size)) (ltb (e .loss) (d .loss)) h in
+    record { sizes = ltb-true _ _ (a .0); losses = ltb-true _ _ (a .1) }
+
+-- an ordered path taken apart at its last entry
+pub ordered-parts : (e d : Model) (r : List Model) → ordered (e ∷ d ∷ r) ≡ true → (inRange e ≡ true) × (follows d e ≡ true) × (ordered (d ∷ r) ≡ true)
+unfolding ordered
+ordered-parts e d r h =
+    let a = both (inRange e && follows d e) (ordered (d ∷ r)) h in
+    let b = both (inRange e) (follows d e) (a .0) in
+    (b .0, b .1, a .1)
+
+module _ (s l : List ℕ) where
+  last-in-range : (n : ℕ) → ordered (pathOf s l (suc n)) ≡ true → inRange (entry s l n) ≡ true
+  unfolding pathOf ordered
+  last-in-range zero h = h
+  last-in-range (suc n) h = ordered-parts (entry s l (suc n)) (entry s l n) (pathOf s l n) h .0
+
+  ordered-shorter : (n : ℕ) → ordered (pathOf s l (suc n)) ≡ true → ordered (pathOf s l n) ≡ true
+  unfolding pathOf ordered
+  ordered-shorter zero h = refl
+  ordered-shorter (suc n) h = ordered-parts (entry s l (suc n)) (entry s l n) (pathOf s l n) h .2
+
+  ordered-front : (n k : ℕ) → ordered (pathOf s l n) ≡ true → k ≤ n → ordered (pathOf s l k) ≡ true
+  ordered-front zero k h p = let e : k ≡ 0 = omega arith in rw e h
+  ordered-front (suc n) k h p =
+      ⊎-elim (λ (e : k ≡ suc n). rw e h) (λ (q : k < suc n). ordered-front n k (ordered-shorter n h) (omega arith)) (eq-or-lt-of-le p)
+
+  -- neighbours of an ordered path
+  pub ordered-near : (n i : ℕ) → ordered (pathOf s l n) ≡ true → suc i < n → Before (entry s l i) (entry s l (suc i))
+  unfolding pathOf
+  ordered-near n i h p =
+      follows-before (entry s l i) (entry s l (suc i)) (ordered-parts (entry s l (suc i)) (entry s l i) (pathOf s l i) (ordered-front n (suc (suc i)) h p) .1)
+
+  -- an entry of an ordered path
+  pub ordered-within : (n i : ℕ) → ordered (pathOf s l n) ≡ true → i < n → Within (entry s l i)
+  ordered-within n i h p = within (entry s l i) (last-in-range i (ordered-front n (suc i) h p))
+
+  -- an entry and the last one
+  ordered-ends : (n i : ℕ) → ordered (pathOf s l (suc n)) ≡ true → i ≤ n → (getD s i 0 ≤ getD s n 0) × (getD l n 0 ≤ getD l i 0)
+  ordered-ends zero i h p = let e : i ≡ 0 = omega arith in rw e (omega arith, omega arith)
+  ordered-ends (suc n) i h p =
+      let a = ordered-near (suc (suc n)) n h (omega arith) in
+      ⊎-elim (λ (e : i ≡ suc n). rw e (omega arith, omega arith))
+      (λ (q : i < suc n). let b = ordered-ends n i (ordered-shorter (suc n) h) (omega arith) in (omega arith, omega arith)) (eq-or-lt-of-le p)
+
+-- a valid path taken apart
+pub record Valid (s l : List ℕ) (n : ℕ) : Type 0 where
+  pub in-sizes : n ≤ length s
+  pub in-losses : n ≤ length l
+  pub few : n ≤ 4096
+  pub order : ordered (pathOf s l n) ≡ true
+
+pub valid-parts : (s l : List ℕ) (n : ℕ) → validPath s l n ≡ true → Valid s l n
+unfolding validPath
+valid-parts s l n h =
+    let a = both (leb n (length s) && leb n (length l) && leb n 4096) _ h in
+    let b = both (leb n (length s) && leb n (length l)) _ (a .0) in
+    let d = both (leb n (length s)) _ (b .0) in
+    record { in-sizes = leb-true _ _ (d .0); in-losses = leb-true _ _ (d .1); few = leb-true _ _ (b .1); order = a .1 }
+
+-- a model that passes its checks
+pub record Passes (st : List Model) (m : Model) : Type 0 where
+  pub range : inRange m ≡ true
+  pub size : sizeAbove st m ≡ true
+  pub loss : lossBelow st m ≡ true
+
+pub model-passes : (st : List Model) (m : Model) → refusalOf (modelChecks st m) ≡ 0 → Passes st m
+model-passes st m h =
+    let a = passed (check 5 (inRange m)) (check 6 (sizeAbove st m) ∷ check 7 (lossBelow st m) ∷ []) (omega arith) h in
+    let b = passed (check 6 (sizeAbove st m)) (check 7 (lossBelow st m) ∷ []) (omega arith) (a .1) in
+    let d = passed (check 7 (lossBelow st m)) [] (omega arith) (b .1) in
+    record { range = a .0; size = b .0; loss = d .0 }
+
+-- then it comes after the last entry
+pub passes-before : (e : Model) (r : List Model) (m : Model) → Passes (e ∷ r) m → Before e m
+unfolding sizeAbove lossBelow
+passes-before e r m p = record { sizes = ltb-true _ _ (p .size); losses = ltb-true _ _ (p .loss) }
+
+-- the input of an append that 8, 5, 6 and 7 let pass
+pub record Acceptable (s l : List ℕ) (n : ℕ) (m : Model) : Type 0 where
+  pub valid : Valid s l n
+  pub passes : Passes (pathOf s l n) m
+
+pub acceptable : (s l : List ℕ) (n : ℕ) (m : Model) → refusalOf (check 8 (validPath s l n) ∷ modelChecks (pathOf s l n) m) ≡ 0 → Acceptable s l n m
+acceptable s l n m h =
+    let a = passed (check 8 (validPath s l n)) (modelChecks (pathOf s l n) m) (omega arith) h in
+    record { valid = valid-parts s l n (a .0); passes = model-passes (pathOf s l n) m (a .1) }
+
+-- such an input is ready for the scan
+ready-more : (s l : List ℕ) (n : ℕ) (m : Model) → Acceptable s l (suc n) m → Ready s l (suc n) (m .size) (m .loss)
+unfolding pathOf
+ready-more s l n m h =
+    let v = h .valid in
+    let b = passes-before (entry s l n) (pathOf s l n) m (h .passes) in
+    let w = within m (h .passes .range) in
+    record {
+      some = omega arith;
+      in-sizes = v .in-sizes;
+      in-losses = v .in-losses;
+      near = λ i p.
+      let near = ordered-near s l (suc n) i (v .order) p in
+      let ends = ordered-ends s l n (suc i) (v .order) (omega arith) in
+      record {
+        rise = omega arith;
+        above = omega arith;
+        small = w .small;
+        below = omega arith;
+        fall = omega arith;
+        low = ordered-within s l (suc n) i (v .order) (omega arith) .low;
+      };
+    }
+
+pub ready : (s l : List ℕ) (n : ℕ) (m : Model) → (n ≡ 0 → ⊥) → Acceptable s l n m → Ready s l n (m .size) (m .loss)
+ready s l zero m z h = absurd (z refl)
+ready s l (suc n) m z h = ready-more s l n m h
+
+-- ---- the refusal of a model by cases
+pub out-of-range : (st : List Model) (m : Model) → inRange m ≡ false → refusalOf (modelChecks st m) ≡ 5
+out-of-range st m h = check-fails (check 5 (inRange m)) _ h
+
+pub first-model : (s l : List ℕ) (n : ℕ) (m : Model) → inRange m ≡ true → n ≡ 0 → refusalOf (modelChecks (pathOf s l n) m) ≡ 0
+unfolding pathOf sizeAbove lossBelow refusalOf
+first-model s l n m h e = rw (e, h)
+
+-- after a path of entries 0 to b
+pub later-model : (s l : List ℕ) (n b : ℕ) (m : Model) → inRange m ≡ true → n ≡ suc b → refusalOf (modelChecks (pathOf s l n) m) ≡ refusalOf (check 6 (ltb (getD s b 0) (m .size)) ∷ check 7 (ltb (m .loss) (getD l b 0)) ∷ [])
+unfolding pathOf sizeAbove lossBelow refusalOf
+later-model s l n b m h e = rw (e, h)
+
+-- room for k entries and one more
+pub record Room (s l : List ℕ) (k : ℕ) : Type 0 where
+  pub in-sizes : k < length s
+  pub in-losses : k < length l
+  pub few : k < 4096
+
+pub room-parts : (s l : List ℕ) (k : ℕ) → roomFor s l (suc k) ≡ true → Room s l k
+room-parts s l k h =
+    let a = both (leb (suc k) (length s) && leb (suc k) (length l)) _ h in
+    let b = both (leb (suc k) (length s)) _ (a .0) in
+    record { in-sizes = leb-true _ _ (b .0); in-losses = leb-true _ _ (b .1); few = leb-true _ _ (a .1) }

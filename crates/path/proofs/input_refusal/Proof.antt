@@ -1,0 +1,34 @@
+-- `path::input_refusal` meets its contract: 8 where the path is not valid, and else what the model's checks say.
+use mathlib.Core.Path.{_≡_, sym, _∙_}
+use borrow.Author.Tests.{not-true, not-false}
+use Rattle.path.specs.Model.{model, pathOf}
+use Rattle.path.specs.Refusal.{check, validPath, modelChecks}
+use Rattle.path.proofs.Order.{valid-parts}
+use Rattle.path.proofs.Checks.{check-fails, check-passes}
+use borrow.Author.Needs.{needs}
+use Rattle.path.proofs.input_refusal.Statement.{statement}
+use Rattle.path.proofs.input_refusal.Tie as tie
+
+valid-path-requires : tie.Need-valid-path-requires
+valid-path-requires c κs = search needs
+
+returns : tie.Need-returns
+returns c =
+    let a = c .before .before .before .before .args in
+    sym (check-fails (check 8 (validPath (a .sizes .now) (a .losses .now) (a .entries))) _ (sym (c .before .valid-path .ensures) ∙ not-true _ (c .if1 .taken)))
+
+model-refusal-requires : tie.Need-model-refusal-requires
+model-refusal-requires c κs =
+    let a = c .before .before .before .before .args in
+    let v = valid-parts (a .sizes .now) (a .losses .now) (a .entries) (sym (c .before .valid-path .ensures) ∙ not-false _ (c .if1 .left)) in
+    (v .in-sizes, v .in-losses)
+
+returns-2 : tie.Need-returns-2
+returns-2 c =
+    let a = c .before .before .before .before .before .args in
+    c .model-refusal .ensures
+    ∙ sym (check-passes (check 8 (validPath (a .sizes .now) (a .losses .now) (a .entries))) _ (sym (c .before .before .valid-path .ensures) ∙ not-false _ (c .before .if1 .left)))
+
+pub input-refusal-spec : {M : Type 1} → statement M
+input-refusal-spec =
+    tie.close (tie.spec valid-path-requires returns model-refusal-requires returns-2)
