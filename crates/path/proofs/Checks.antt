@@ -62,3 +62,18 @@ passes-on (c ∷ cs) ds n h =
       where
         none : c .number ≡ 0 → ⊥
         none e = omega arith
+
+-- where both lists pass, each does
+pub both-pass : (cs ds : List Check) → numbered cs ≡ true → refusalOf (cs ++ ds) ≡ 0 → (refusalOf cs ≡ 0) × (refusalOf ds ≡ 0)
+unfolding refusalOf
+both-pass [] ds n h = (refl, h)
+both-pass (c ∷ cs) ds n h =
+    let m = both (ltb 0 (c .number)) (numbered cs) n in
+    by-test (c .passes) (ltb-true 0 (c .number) (m .0)) (both-pass cs ds (m .1)) h
+  where
+    by-test : (b : Bool) → 0 < c .number → (refusalOf (cs ++ ds) ≡ 0 → (refusalOf cs ≡ 0) × (refusalOf ds ≡ 0)) → cond b (refusalOf (cs ++ ds)) (c .number) ≡ 0 → (cond b (refusalOf cs) (c .number) ≡ 0) × (refusalOf ds ≡ 0)
+    by-test true p f h = f h
+    by-test false p f h = absurd (none h)
+      where
+        none : c .number ≡ 0 → ⊥
+        none e = omega arith

@@ -4,3 +4,4 @@ pub mod Order
 pub mod Buffers
 pub mod Products
 pub mod Cases
+pub mod Updates

@@ -110,6 +110,10 @@ model-passes st m h =
     let d = passed (check 7 (lossBelow st m)) [] (omega arith) (b .1) in
     record { range = a .0; size = b .0; loss = d .0 }
 
+pub model-accepted : (st : List Model) (m : Model) → Passes st m → refusalOf (modelChecks st m) ≡ 0
+unfolding refusalOf
+model-accepted st m p = rw (p .range, p .size, p .loss)
+
 -- then it comes after the last entry
 pub passes-before : (e : Model) (r : List Model) (m : Model) → Passes (e ∷ r) m → Before e m
 unfolding sizeAbove lossBelow
@@ -137,16 +141,16 @@ ready-more s l n m h =
       in-sizes = v .in-sizes;
       in-losses = v .in-losses;
       near = λ i p.
-      let near = ordered-near s l (suc n) i (v .order) p in
-      let ends = ordered-ends s l n (suc i) (v .order) (omega arith) in
-      record {
-        rise = omega arith;
-        above = omega arith;
-        small = w .small;
-        below = omega arith;
-        fall = omega arith;
-        low = ordered-within s l (suc n) i (v .order) (omega arith) .low;
-      };
+          let near = ordered-near s l (suc n) i (v .order) p in
+          let ends = ordered-ends s l n (suc i) (v .order) (omega arith) in
+          record {
+            rise = omega arith;
+            above = omega arith;
+            small = w .small;
+            below = omega arith;
+            fall = omega arith;
+            low = ordered-within s l (suc n) i (v .order) (omega arith) .low;
+          };
     }
 
 pub ready : (s l : List ℕ) (n : ℕ) (m : Model) → (n ≡ 0 → ⊥) → Acceptable s l n m → Ready s l n (m .size) (m .loss)

@@ -53,7 +53,14 @@ fn scan(sizes: &[u64], losses: &[u64], entries: usize, size: u64, loss: u64) -> 
         }
         let before = i - 2;
         let at = i - 1;
-        if candidate_below(sizes[before], losses[before], sizes[at], losses[at], size, loss) {
+        if candidate_below(
+            sizes[before],
+            losses[before],
+            sizes[at],
+            losses[at],
+            size,
+            loss,
+        ) {
             break Kept {
                 entries: i,
                 tests: tests,
@@ -215,7 +222,13 @@ fn has_room(sizes_len: usize, losses_len: usize, kept: usize) -> bool
 }
 
 // Appends a model to the path of so many entries. The path then fills the front of both lists.
-pub fn append(sizes: &mut [u64], losses: &mut [u64], entries: usize, size: u64, loss: u64) -> Appended
+pub fn append(
+    sizes: &mut [u64],
+    losses: &mut [u64],
+    entries: usize,
+    size: u64,
+    loss: u64,
+) -> Appended
     ensures { λ r. ⌜ outcome r (now (sizes .exit)) (now (losses .exit)) ≡ appendOf (now (sizes .entry)) (now (losses .entry)) entries (model size loss) ⌝ }
 {
     let refusal = input_refusal(sizes, losses, entries, size, loss);

@@ -1,0 +1,92 @@
+-- `buildOf` and its checks by cases, and the buffers that an accepted build leaves.
+use mathlib.Core.Path.{_≡_, refl, ap, sym, _∙_}
+use mathlib.Core.Bool.{Bool, true, false, _&&_}
+use mathlib.Core.List.{List, [], _∷_, _++_}
+use Prim.Native.Nat.{ℕ, _+_, _-_, _≤_, _<_, max}
+use native.Mathlib.Omega.{arith}
+use lib.Dec.{leb}
+use lib.ListN.{length, take, drop, replicate}
+use borrow.Author.Tests.{le-leb, lt-leb}
+use borrow.Rule.Slice.PartMut.{putMid, post-is}
+use Rattle.path.specs.Model.{Model, pathOf, sizesOf, lossesOf}
+use Rattle.path.specs.Refusal.{Check, check, refusalOf}
+use Rattle.path.specs.Buffer.{laid}
+use Rattle.path.specs.Append.{Outcome, refused, filled}
+use Rattle.path.proofs.Paths.{length-path, sizes-path, losses-path, length-sizes, length-losses}
+use Rattle.path.proofs.Checks.{check-fails, check-passes, fails-early, passes-on}
+use Rattle.path.proofs.Cases.{refuses, accepts}
+use Rattle.build.specs.Build.{built, builtTests, countOf, listChecks, buildChecks, buildOf}
+use Rattle.build.specs.Fill.{Filled}
+use Rattle.build.proofs.Lists.{list-numbered, fillable}
+
+-- the refusal of a build by cases
+module _ (a b : List ℕ) (sizesRoom lossesRoom n : ℕ) (e : n ≡ countOf a b) where
+  abbrev count : ℕ
+  count = countOf a b
+
+  abbrev room : Check
+  room = check 9 (leb count sizesRoom && leb count lossesRoom)
+
+  pub no-models : n ≡ 0 → refusalOf (buildChecks a b sizesRoom lossesRoom) ≡ 1
+  no-models z = check-fails (check 1 (leb 1 count)) _ (lt-leb 1 count (omega arith))
+
+  module _ (some : n ≡ 0 → ⊥) where
+    after-first : refusalOf (buildChecks a b sizesRoom lossesRoom) ≡ refusalOf (check 2 (leb count 4096) ∷ (listChecks a b 0 count ++ (room ∷ [])))
+    after-first = check-passes (check 1 (leb 1 count)) _ (le-leb 1 count (omega (arith, some)))
+
+    pub too-many : 4096 < n → refusalOf (buildChecks a b sizesRoom lossesRoom) ≡ 2
+    too-many h = after-first ∙ check-fails (check 2 (leb count 4096)) _ (lt-leb count 4096 (omega arith))
+
+    module _ (few : n ≤ 4096) where
+      after-second : refusalOf (buildChecks a b sizesRoom lossesRoom) ≡ refusalOf (listChecks a b 0 count ++ (room ∷ []))
+      after-second = after-first ∙ check-passes (check 2 (leb count 4096)) _ (le-leb count 4096 (omega arith))
+
+      pub bad-list : (c : ℕ) → c ≡ refusalOf (listChecks a b 0 n) → (c ≡ 0 → ⊥) → refusalOf (buildChecks a b sizesRoom lossesRoom) ≡ c
+      bad-list c f h =
+          let g : c ≡ refusalOf (listChecks a b 0 count) = f ∙ ap (λ (k : ℕ). refusalOf (listChecks a b 0 k)) e in
+          after-second ∙ fails-early (listChecks a b 0 count) (room ∷ []) (λ z. h (g ∙ z)) ∙ sym g
+
+      module _ (good : refusalOf (listChecks a b 0 n) ≡ 0) where
+        room-decides : refusalOf (buildChecks a b sizesRoom lossesRoom) ≡ refusalOf (room ∷ [])
+        room-decides =
+            after-second ∙ passes-on (listChecks a b 0 count) (room ∷ []) (list-numbered a b count 0) (sym (ap (λ (k : ℕ). refusalOf (listChecks a b 0 k)) e) ∙ good)
+
+        pub no-sizes-room : sizesRoom < n → refusalOf (buildChecks a b sizesRoom lossesRoom) ≡ 9
+        no-sizes-room h = room-decides ∙ check-fails room [] (rw (lt-leb count sizesRoom (omega arith)))
+
+        pub no-losses-room : n ≤ sizesRoom → lossesRoom < n → refusalOf (buildChecks a b sizesRoom lossesRoom) ≡ 9
+        no-losses-room g h =
+            room-decides ∙ check-fails room [] (rw (le-leb count sizesRoom (omega arith), lt-leb count lossesRoom (omega arith)))
+
+        pub all-pass : n ≤ sizesRoom → n ≤ lossesRoom → refusalOf (buildChecks a b sizesRoom lossesRoom) ≡ 0
+        unfolding refusalOf
+        all-pass g h =
+            room-decides ∙ check-passes room [] (rw (le-leb count sizesRoom (omega arith), le-leb count lossesRoom (omega arith)))
+
+-- a front of k places, the zeros after it and what lies beyond
+laid-after : (s s₀ front : List ℕ) (k n : ℕ) → k ≤ n → length front ≡ k → front ≡ take k s → drop n s ≡ drop n s₀ → putMid k (n - k) s (replicate (n - k) 0) ≡ laid front n s₀
+laid-after s s₀ front k n h e g d =
+    let m : max n k ≡ n = omega arith in
+    rw (post-is k n s h, e, m, ← g, d)
+
+module _ (a b s₀ l₀ : List ℕ) where
+  pub build-refused : (c : ℕ) → c ≡ refusalOf (buildChecks a b (length s₀) (length l₀)) → (c ≡ 0 → ⊥) → refused c s₀ l₀ ≡ buildOf a b s₀ l₀
+  unfolding buildOf
+  build-refused c e h = refuses (λ c. refused c s₀ l₀) _ (buildChecks a b (length s₀) (length l₀)) c e h
+
+  pub build-done : refusalOf (buildChecks a b (length s₀) (length l₀)) ≡ 0 → (s l s' l' : List ℕ) (k t : ℕ) → Filled a b s₀ l₀ s l k t (length a)
+      → s' ≡ putMid k (length a - k) s (replicate (length a - k) 0) → l' ≡ putMid k (length a - k) l (replicate (length a - k) 0)
+      → record { refusal = 0; entries = k; tests = t; sizes = s'; losses = l' } ≡ buildOf a b s₀ l₀
+  unfolding buildOf
+  build-done h s l s' l' k t f x y =
+      let n = length a in
+      let path = built a b n in
+      let ok = fillable a b (length s₀) (length l₀) h in
+      let entries : length path ≡ k = ap length (sym (f .path)) ∙ length-path s l k in
+      let sizes : putMid k (n - k) s (replicate (n - k) 0) ≡ laid (sizesOf path) n s₀ =
+      laid-after s s₀ (sizesOf path) k n (f .most) (length-sizes path ∙ entries) (ap sizesOf (sym (f .path)) ∙ sizes-path s l k (omega (arith, f .most, f .sizes-long, ok .1 .sizes-fit))) (f .sizes-rest) in
+      let losses : putMid k (n - k) l (replicate (n - k) 0) ≡ laid (lossesOf path) n l₀ =
+      laid-after l l₀ (lossesOf path) k n (f .most) (length-losses path ∙ entries) (ap lossesOf (sym (f .path)) ∙ losses-path s l k (omega (arith, f .most, f .losses-long, ok .1 .losses-fit))) (f .losses-rest) in
+      let done : record { refusal = 0; entries = k; tests = t; sizes = s'; losses = l' } ≡ filled (built a b (countOf a b)) (builtTests a b (countOf a b)) (countOf a b) s₀ l₀ =
+      rw (ok .0, x, y, sizes, losses, entries, f .counted) in
+      done ∙ accepts (λ c. refused c s₀ l₀) _ (buildChecks a b (length s₀) (length l₀)) h

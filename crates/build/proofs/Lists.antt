@@ -1,0 +1,104 @@
+-- Laws of the checks of a list of models: where model i is bad, where it passes, and what a list without a bad one tells.
+use mathlib.Core.Path.{_≡_, refl, ap, sym, _∙_, subst}
+use mathlib.Core.Bool.{Bool, true, false, _&&_}
+use mathlib.Core.List.{List, [], _∷_, _++_}
+use Prim.Native.Nat.{ℕ, zero, suc, _+_, _-_, _≤_, _<_, max}
+use native.Mathlib.Nat.{not-suc-le-zero}
+use native.Mathlib.Numerals.{add-one}
+use native.Mathlib.Omega.{arith}
+use lib.Dec.{ltb, leb}
+use lib.ListN.{length, getD}
+use borrow.Author.Tests.{lt-ltb, le-ltb, ltb-true, leb-true, le-leb, lt-leb}
+use Rattle.path.specs.Model.{Model, pathOf}
+use Rattle.path.specs.Refusal.{Check, check, refusalOf, modelChecks, sizeAbove, lossBelow}
+use Rattle.path.proofs.Checks.{numbered, both, check-fails, check-passes, passed, fails-early, passes-on, both-pass}
+use Rattle.path.proofs.Order.{Passes, model-passes}
+use Rattle.build.specs.Build.{modelAt, built, countOf, checksAt, listChecks, buildChecks}
+use Rattle.build.specs.Fill.{Fillable}
+
+module _ (a b : List ℕ) where
+  -- the checks of one model
+  pub lacks-size : (i : ℕ) → length a ≤ i → refusalOf (checksAt a b i) ≡ 5
+  lacks-size i h = check-fails (check 5 (ltb i (length a) && ltb i (length b))) _ (rw (le-ltb i (length a) h))
+
+  pub lacks-loss : (i : ℕ) → i < length a → length b ≤ i → refusalOf (checksAt a b i) ≡ 5
+  lacks-loss i g h =
+      check-fails (check 5 (ltb i (length a) && ltb i (length b))) _ (rw (lt-ltb i (length a) g, le-ltb i (length b) h))
+
+  pub lacks-nothing : (i : ℕ) → i < length a → i < length b → refusalOf (checksAt a b i) ≡ refusalOf (modelChecks (pathOf a b i) (modelAt a b i))
+  lacks-nothing i g h =
+      check-passes (check 5 (ltb i (length a) && ltb i (length b))) _ (rw (lt-ltb i (length a) g, lt-ltb i (length b) h))
+
+  -- the checks of the models from i on
+  checks-split : (i m : ℕ) → listChecks a b i (suc m) ≡ checksAt a b i ++ listChecks a b (suc i) m
+  unfolding listChecks
+  checks-split i m = refl
+
+  pub none-left : (i m : ℕ) → m ≡ 0 → refusalOf (listChecks a b i m) ≡ 0
+  unfolding listChecks refusalOf
+  none-left i m e = rw e
+
+  pub bad-model : (i m c : ℕ) → 0 < m → refusalOf (checksAt a b i) ≡ c → (c ≡ 0 → ⊥) → refusalOf (listChecks a b i m) ≡ c
+  bad-model i zero c h e f = absurd (not-suc-le-zero h)
+  bad-model i (suc m) c h e f =
+      ap refusalOf (checks-split i m) ∙ fails-early (checksAt a b i) (listChecks a b (suc i) m) (λ z. f (sym e ∙ z)) ∙ e
+
+  pub good-model : (i m m' : ℕ) → m ≡ suc m' → refusalOf (checksAt a b i) ≡ 0 → refusalOf (listChecks a b i m) ≡ refusalOf (listChecks a b (i + 1) m')
+  good-model i m m' q e =
+      rw (q, add-one i) (ap refusalOf (checks-split i m') ∙ passes-on (checksAt a b i) (listChecks a b (suc i) m') refl e)
+
+  later-passes : (m i k : ℕ) → refusalOf (listChecks a b i m) ≡ 0 → k < m → refusalOf (checksAt a b (i + k)) ≡ 0
+  later-passes zero i k h p = absurd (not-suc-le-zero p)
+  later-passes (suc m) i zero h p =
+      let e : i + 0 ≡ i = omega arith in
+      rw e (both-pass (checksAt a b i) (listChecks a b (suc i) m) refl (sym (ap refusalOf (checks-split i m)) ∙ h) .0)
+  later-passes (suc m) i (suc k) h p =
+      let e : i + suc k ≡ suc i + k = omega arith in
+      rw e (later-passes m (suc i) k (both-pass (checksAt a b i) (listChecks a b (suc i) m) refl (sym (ap refusalOf (checks-split i m)) ∙ h) .1) (omega arith))
+
+  -- in a list without a bad model each passes
+  pub each-passes : (n k : ℕ) → refusalOf (listChecks a b 0 n) ≡ 0 → k < n → refusalOf (checksAt a b k) ≡ 0
+  each-passes n k h p = let e : 0 + k ≡ k = omega arith in subst (λ (j : ℕ). refusalOf (checksAt a b j) ≡ 0) e (later-passes n 0 k h p)
+
+  -- the path's last entry is the model before, so that a model is checked against either alike
+  pub same-checks : (i : ℕ) (m : Model) → refusalOf (modelChecks (built a b i) m) ≡ refusalOf (modelChecks (pathOf a b i) m)
+  unfolding built pathOf sizeAbove lossBelow
+  same-checks zero m = refl
+  same-checks (suc i) m = refl
+
+  -- model k of a list without a bad one, against the path before it
+  pub model-ready : (n k : ℕ) → refusalOf (listChecks a b 0 n) ≡ 0 → k < n → (k < length a) × (k < length b) × Passes (built a b k) (modelAt a b k)
+  model-ready n k h p =
+      let e = passed (check 5 (ltb k (length a) && ltb k (length b))) (modelChecks (pathOf a b k) (modelAt a b k)) (omega arith) (each-passes n k h p) in
+      let f = both (ltb k (length a)) (ltb k (length b)) (e .0) in
+      (ltb-true _ _ (f .0), ltb-true _ _ (f .1), model-passes (built a b k) (modelAt a b k) (same-checks k (modelAt a b k) ∙ e .1))
+
+  pub list-numbered : (m i : ℕ) → numbered (listChecks a b i m) ≡ true
+  unfolding listChecks
+  list-numbered zero i = refl
+  list-numbered (suc m) i = list-numbered m (suc i)
+
+-- an accepted build: both lists have as many items, none is bad, and both buffers have room
+pub fillable : (a b : List ℕ) (m n : ℕ) → refusalOf (buildChecks a b m n) ≡ 0 → (countOf a b ≡ length a) × Fillable a b m n
+fillable a b m n h =
+    let count = countOf a b in
+    let room = check 9 (leb count m && leb count n) in
+    let some = passed (check 1 (leb 1 count)) _ (omega arith) h in
+    let limit = passed (check 2 (leb count 4096)) _ (omega arith) (some .1) in
+    let models = both-pass (listChecks a b 0 count) (room ∷ []) (list-numbered a b count 0) (limit .1) in
+    let rooms = both (leb count m) (leb count n) (passed room [] (omega arith) (models .1) .0) in
+    let positive = leb-true 1 count (some .0) in
+    let few = leb-true count 4096 (limit .0) in
+    let in-m = leb-true count m (rooms .0) in
+    let in-n = leb-true count n (rooms .1) in
+    let last = model-ready a b count (count - 1) (models .0) (omega arith) in
+    let e : count ≡ length a = omega arith in (
+      e,
+      record {
+        good = rw e at (models .0);
+        few = omega arith;
+        paired = omega arith;
+        sizes-fit = omega arith;
+        losses-fit = omega arith;
+      },
+    )

@@ -1,0 +1,114 @@
+-- `build::build` meets its contract: refused, or filled and then cleared past the path's end as far as the number of models.
+use mathlib.Core.Path.{_≡_, ap, sym, _∙_}
+use mathlib.Core.List.{List}
+use Prim.Native.Nat.{ℕ, _-_}
+use native.Mathlib.Omega.{arith}
+use lib.ListN.{length, replicate}
+use borrow.Rule.Slice.PartMut.{putMid, mid-len}
+use Rattle.path.specs.declared.Appended.{Appended}
+use Rattle.path.specs.Append.{outcome}
+use Rattle.build.proofs.Lists.{fillable}
+use Rattle.build.proofs.Cases.{build-refused, build-done}
+use borrow.Author.Needs.{needs}
+use Rattle.build.proofs.build.Statement.{statement}
+use Rattle.build.proofs.build.Tie as tie
+
+build-refusal-requires : tie.Need-build-refusal-requires
+build-refusal-requires c κs = search needs
+
+refuse-requires : tie.Need-refuse-requires
+refuse-requires c κs = search needs
+
+returns : tie.Need-returns
+returns c =
+    let a = c .before .before .before .before .before .before .before .args in
+    let r = c .before .before .build-refusal in
+    ap (λ (x : Appended). outcome x (a .path-sizes .now) (a .path-losses .now)) (c .refuse .ensures)
+    ∙ build-refused (a .sizes .now) (a .losses .now) (a .path-sizes .now) (a .path-losses .now) (r .result) (r .ensures) (c .before .if1 .taken)
+
+fill-requires : tie.Need-fill-requires
+fill-requires c κs =
+    let a = c .before .before .before .before .before .before .before .before .args in
+    let r = c .before .before .before .build-refusal in
+    fillable (a .sizes .now) (a .losses .now) (length (a .path-sizes .now)) (length (a .path-losses .now)) (sym (r .ensures) ∙ c .before .before .if1 .left) .1
+
+mul-clear : tie.Need-mul-clear
+mul-clear c = search needs
+
+sub-clear : tie.Need-sub-clear
+sub-clear c = search needs
+
+part-clear-start : tie.Need-part-clear-start
+part-clear-start c = search needs
+
+part-clear-end : tie.Need-part-clear-end
+part-clear-end c =
+    let a = c .before .before .before .before .before .before .before .before .before .before .before .before .before .args in
+    let r = c .before .before .before .before .before .before .before .before .build-refusal in
+    let ok = fillable (a .sizes .now) (a .losses .now) (length (a .path-sizes .now)) (length (a .path-losses .now)) (sym (r .ensures) ∙ c .before .before .before .before .before .before .before .if1 .left) .1 in
+    omega (arith, ok .sizes-fit, c .before .before .before .before .fill .ensures .sizes-long)
+
+clear-requires : tie.Need-clear-requires
+clear-requires c κs = search needs
+
+mul-clear-2 : tie.Need-mul-clear-2
+mul-clear-2 c = search needs
+
+sub-clear-2 : tie.Need-sub-clear-2
+sub-clear-2 c = search needs
+
+part-clear-start-2 : tie.Need-part-clear-start-2
+part-clear-start-2 c = search needs
+
+part-clear-end-2 : tie.Need-part-clear-end-2
+part-clear-end-2 c =
+    let a = c .before .before .before .before .before .before .before .before .before .before .before .before .before .before .before .before .before .args in
+    let r = c .before .before .before .before .before .before .before .before .before .before .before .before .build-refusal in
+    let ok = fillable (a .sizes .now) (a .losses .now) (length (a .path-sizes .now)) (length (a .path-losses .now)) (sym (r .ensures) ∙ c .before .before .before .before .before .before .before .before .before .before .before .if1 .left) .1 in
+    omega (arith, ok .losses-fit, c .before .before .before .before .before .before .before .before .fill .ensures .losses-long)
+
+clear-requires-2 : tie.Need-clear-requires-2
+clear-requires-2 c κs = search needs
+
+same-length : tie.Need-same-length
+same-length c = search needs
+
+same-length-2 : tie.Need-same-length-2
+same-length-2 c = search needs
+
+returns-2 : tie.Need-returns-2
+returns-2 c =
+    let a = c .before .before .before .before .before .before .before .before .before .before .before .before .before .before .before .before .before .before .before .before .before .args in
+    let r = c .before .before .before .before .before .before .before .before .before .before .before .before .before .before .before .before .build-refusal in
+    let none = sym (r .ensures) ∙ c .before .before .before .before .before .before .before .before .before .before .before .before .before .before .before .if1 .left in
+    let ok = fillable (a .sizes .now) (a .losses .now) (length (a .path-sizes .now)) (length (a .path-losses .now)) none .1 in
+    let f = c .before .before .before .before .before .before .before .before .before .before .before .before .fill in
+    let k = f .result .entries in
+    let n = length (a .sizes .now) in
+    let s = f .last .1 .1 .0 in
+    let l = f .last .1 .1 .1 .0 in
+    build-done (a .sizes .now) (a .losses .now) (a .path-sizes .now) (a .path-losses .now) none s l _ _ k (f .result .tests) (f .ensures)
+    (ap (putMid k (n - k) s) (c .before .before .before .before .before .before .clear .ensures ∙ ap (λ (m : ℕ). replicate m 0) (mid-len k n s (omega (arith, ok .sizes-fit, f .ensures .sizes-long)))))
+    (ap (putMid k (n - k) l) (c .before .before .clear2 .ensures ∙ ap (λ (m : ℕ). replicate m 0) (mid-len k n l (omega (arith, ok .losses-fit, f .ensures .losses-long)))))
+
+pub build-spec : {M : Type 1} → statement M
+build-spec =
+    tie.close
+    (tie.spec
+    build-refusal-requires
+    refuse-requires
+    returns
+    fill-requires
+    mul-clear
+    sub-clear
+    part-clear-start
+    part-clear-end
+    clear-requires
+    mul-clear-2
+    sub-clear-2
+    part-clear-start-2
+    part-clear-end-2
+    clear-requires-2
+    same-length
+    same-length-2
+    returns-2)

@@ -1,0 +1,114 @@
+// A path from a list of sizes and a list of losses. Each model is pushed on the path in turn by the scan that append uses,
+// so that the whole is linear in the number of models.
+
+ghost use mathlib.Core.Path.{_≡_};
+ghost use Prim.Native.Nat.{ℕ, _≤_, max};
+ghost use lib.ListN.{length};
+ghost use Rattle.path.specs.Refusal.{refusalOf};
+ghost use Rattle.path.specs.Append.{outcome};
+ghost use Rattle.build.specs.Build.{listChecks, buildChecks, buildOf};
+ghost use Rattle.build.specs.Fill.{Fillable, Filled};
+use path::Appended;
+use path::Kept;
+
+// The refusal of the first of so many models that is bad: 5, 6 or 7, or 0.
+fn list_refusal(sizes: &[u64], losses: &[u64], count: usize) -> u64
+    ensures { λ r. ⌜ r ≡ refusalOf (listChecks (now (sizes .entry)) (now (losses .entry)) 0 count) ⌝ }
+{
+    let mut i = 0;
+    while i < count {
+        if sizes.len() <= i {
+            return 5;
+        }
+        if losses.len() <= i {
+            return 5;
+        }
+        let refusal = path::model_refusal(sizes, losses, i, sizes[i], losses[i]);
+        if refusal != 0 {
+            return refusal;
+        }
+        i += 1;
+    }
+    0
+}
+
+// The larger of two numbers.
+fn larger(a: usize, b: usize) -> usize
+    ensures { λ r. ⌜ r ≡ max a b ⌝ }
+{
+    if a < b { b } else { a }
+}
+
+// The refusal of a build into buffers of two lengths: the first of 1, 2, 5, 6, 7 and 9, or 0.
+fn build_refusal(sizes: &[u64], losses: &[u64], sizes_room: usize, losses_room: usize) -> u64
+    ensures { λ r. ⌜ r ≡ refusalOf (buildChecks (now (sizes .entry)) (now (losses .entry)) «sizes_room» «losses_room») ⌝ }
+{
+    let count = larger(sizes.len(), losses.len());
+    if count == 0 {
+        return 1;
+    }
+    if 4096 < count {
+        return 2;
+    }
+    let refusal = list_refusal(sizes, losses, count);
+    if refusal != 0 {
+        return refusal;
+    }
+    if sizes_room < count {
+        return 9;
+    }
+    if losses_room < count {
+        return 9;
+    }
+    0
+}
+
+// Pushes the models one by one. The path stands at the front of the buffers, and places past the models stay.
+fn fill(sizes: &[u64], losses: &[u64], path_sizes: &mut [u64], path_losses: &mut [u64]) -> Kept
+    requires { ⌜ Fillable (now sizes) (now losses) (length (now «path_sizes»)) (length (now «path_losses»)) ⌝ }
+    ensures { λ r. ⌜ Filled (now (sizes .entry)) (now (losses .entry)) (now («path_sizes» .entry)) (now («path_losses» .entry)) (now («path_sizes» .exit)) (now («path_losses» .exit)) (r .entries) (r .tests) (length (now (sizes .entry))) ⌝ }
+{
+    let mut entries: usize = 0;
+    let mut tests: u64 = 0;
+    let mut i = 0;
+    while i < sizes.len() {
+        let size = sizes[i];
+        let loss = losses[i];
+        let found = path::try_model(path_sizes, path_losses, entries, size, loss);
+        let kept = found.entries;
+        path_sizes[kept] = size;
+        path_losses[kept] = loss;
+        entries = kept + 1;
+        tests += found.tests;
+        i += 1;
+    }
+    Kept {
+        entries: entries,
+        tests: tests,
+    }
+}
+
+// Builds the path of a list of models in two buffers, with zeros after it as far as the number of models.
+pub fn build(
+    sizes: &[u64],
+    losses: &[u64],
+    path_sizes: &mut [u64],
+    path_losses: &mut [u64],
+) -> Appended
+    ensures { λ r. ⌜ outcome r (now («path_sizes» .exit)) (now («path_losses» .exit)) ≡ buildOf (now (sizes .entry)) (now (losses .entry)) (now («path_sizes» .entry)) (now («path_losses» .entry)) ⌝ }
+{
+    let refusal = build_refusal(sizes, losses, path_sizes.len(), path_losses.len());
+    if refusal != 0 {
+        return path::refuse(refusal);
+    }
+    let count = sizes.len();
+    let made = fill(sizes, losses, path_sizes, path_losses);
+    let end = made.entries;
+    path::clear(&mut path_sizes[end..count]);
+    path::clear(&mut path_losses[end..count]);
+    Appended {
+        refusal: 0,
+        entries: end,
+        tests: made.tests,
+    }
+}
