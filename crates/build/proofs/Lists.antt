@@ -9,11 +9,11 @@ use native.Mathlib.Omega.{arith}
 use lib.Dec.{ltb, leb}
 use lib.ListN.{length, getD}
 use borrow.Author.Tests.{lt-ltb, le-ltb, ltb-true, leb-true, le-leb, lt-leb}
-use Rattle.path.specs.Model.{Model, pathOf}
+use Rattle.path.specs.Model.{Model, modelAt, pathOf}
 use Rattle.path.specs.Refusal.{Check, check, refusalOf, modelChecks, sizeAbove, lossBelow}
 use Rattle.path.proofs.Checks.{numbered, both, check-fails, check-passes, passed, fails-early, passes-on, both-pass}
 use Rattle.path.proofs.Order.{Passes, model-passes}
-use Rattle.build.specs.Build.{modelAt, built, countOf, checksAt, listChecks, buildChecks}
+use Rattle.build.specs.Build.{built, countOf, checksAt, listChecks, buildChecks}
 use Rattle.build.specs.Fill.{Fillable}
 
 module _ (a b : List ℕ) where

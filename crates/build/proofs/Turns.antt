@@ -9,14 +9,14 @@ use native.Mathlib.Omega.{arith}
 use lib.ListN.{length, getD, set, drop, length-set}
 use lib.Seq.{getD-set-same, getD-set-other, drop-set-lt, drop-drop}
 use borrow.Author.Tests.{le-leb}
-use Rattle.path.specs.Model.{Model, model, pathOf}
+use Rattle.path.specs.Model.{Model, model, modelAt, pathOf}
 use Rattle.path.specs.Update.{kept, extended, testsMade}
 use Rattle.path.specs.Refusal.{refusalOf, check, validPath, ordered, modelChecks, sizeAbove, lossBelow}
 use Rattle.path.proofs.Paths.{length-path, path-more, kept-front}
 use Rattle.path.proofs.Checks.{check-passes}
 use Rattle.path.proofs.Order.{Passes, model-accepted}
 use Rattle.path.proofs.Updates.{tests-few, kept-few, extended-ordered}
-use Rattle.build.specs.Build.{modelAt, built, builtTests}
+use Rattle.build.specs.Build.{built, builtTests}
 use Rattle.build.specs.Fill.{Fillable, Filled}
 use Rattle.build.proofs.Lists.{model-ready}
 

@@ -3,15 +3,11 @@ use mathlib.Core.Bool.{cond, _&&_}
 use mathlib.Core.List.{List, [], _∷_, _++_}
 use Prim.Native.Nat.{ℕ, zero, suc, _+_, max}
 use lib.Dec.{ltb, leb, eqb}
-use lib.ListN.{getD, length}
-use Rattle.path.specs.Model.{Model, model, pathOf}
+use lib.ListN.{length}
+use Rattle.path.specs.Model.{Model, modelAt, pathOf}
 use Rattle.path.specs.Update.{extended, testsMade}
 use Rattle.path.specs.Refusal.{Check, check, refusalOf, modelChecks, maxModels}
 use Rattle.path.specs.Append.{Outcome, refused, filled}
-
--- model i of two lists
-abbrev pub modelAt : List ℕ → List ℕ → ℕ → Model
-modelAt sizes losses i = model (getD sizes i 0) (getD losses i 0)
 
 -- the path of the first i models
 unfoldable pub built : List ℕ → List ℕ → ℕ → List Model

@@ -9,10 +9,10 @@ use native.Mathlib.Omega.{arith}
 use lib.Dec.{ltb, leb}
 use lib.ListN.{getD, length}
 use borrow.Author.Tests.{ltb-true, leb-true}
-use Rattle.path.specs.Model.{Model, model, pathOf}
+use Rattle.path.specs.Model.{Model, modelAt, pathOf}
 use Rattle.path.specs.Refusal.{maxSize, maxLoss, inRange, follows, ordered, validPath, sizeAbove, lossBelow, check, modelChecks, refusalOf, roomFor}
 use Rattle.path.specs.Scan.{Comparable, Ready}
-use Rattle.path.proofs.Paths.{entry, ordered-turn}
+use Rattle.path.proofs.Paths.{ordered-turn}
 use Rattle.path.proofs.Checks.{both, passed, check-fails, check-passes}
 
 -- a model in range
@@ -49,30 +49,30 @@ ordered-parts e d r h =
     (b .0, b .1, a .1)
 
 module _ (s l : List ℕ) where
-  last-in-range : (n : ℕ) → ordered (pathOf s l (suc n)) ≡ true → inRange (entry s l n) ≡ true
+  pub last-in-range : (n : ℕ) → ordered (pathOf s l (suc n)) ≡ true → inRange (modelAt s l n) ≡ true
   unfolding pathOf ordered
   last-in-range zero h = h
-  last-in-range (suc n) h = ordered-parts (entry s l (suc n)) (entry s l n) (pathOf s l n) h .0
+  last-in-range (suc n) h = ordered-parts (modelAt s l (suc n)) (modelAt s l n) (pathOf s l n) h .0
 
   ordered-shorter : (n : ℕ) → ordered (pathOf s l (suc n)) ≡ true → ordered (pathOf s l n) ≡ true
   unfolding pathOf ordered
   ordered-shorter zero h = refl
-  ordered-shorter (suc n) h = ordered-parts (entry s l (suc n)) (entry s l n) (pathOf s l n) h .2
+  ordered-shorter (suc n) h = ordered-parts (modelAt s l (suc n)) (modelAt s l n) (pathOf s l n) h .2
 
-  ordered-front : (n k : ℕ) → ordered (pathOf s l n) ≡ true → k ≤ n → ordered (pathOf s l k) ≡ true
+  pub ordered-front : (n k : ℕ) → ordered (pathOf s l n) ≡ true → k ≤ n → ordered (pathOf s l k) ≡ true
   ordered-front zero k h p = let e : k ≡ 0 = omega arith in rw e h
   ordered-front (suc n) k h p =
       ⊎-elim (λ (e : k ≡ suc n). rw e h) (λ (q : k < suc n). ordered-front n k (ordered-shorter n h) (omega arith)) (eq-or-lt-of-le p)
 
   -- neighbours of an ordered path
-  pub ordered-near : (n i : ℕ) → ordered (pathOf s l n) ≡ true → suc i < n → Before (entry s l i) (entry s l (suc i))
+  pub ordered-near : (n i : ℕ) → ordered (pathOf s l n) ≡ true → suc i < n → Before (modelAt s l i) (modelAt s l (suc i))
   unfolding pathOf
   ordered-near n i h p =
-      follows-before (entry s l i) (entry s l (suc i)) (ordered-parts (entry s l (suc i)) (entry s l i) (pathOf s l i) (ordered-front n (suc (suc i)) h p) .1)
+      follows-before (modelAt s l i) (modelAt s l (suc i)) (ordered-parts (modelAt s l (suc i)) (modelAt s l i) (pathOf s l i) (ordered-front n (suc (suc i)) h p) .1)
 
   -- an entry of an ordered path
-  pub ordered-within : (n i : ℕ) → ordered (pathOf s l n) ≡ true → i < n → Within (entry s l i)
-  ordered-within n i h p = within (entry s l i) (last-in-range i (ordered-front n (suc i) h p))
+  pub ordered-within : (n i : ℕ) → ordered (pathOf s l n) ≡ true → i < n → Within (modelAt s l i)
+  ordered-within n i h p = within (modelAt s l i) (last-in-range i (ordered-front n (suc i) h p))
 
   -- an entry and the last one
   ordered-ends : (n i : ℕ) → ordered (pathOf s l (suc n)) ≡ true → i ≤ n → (getD s i 0 ≤ getD s n 0) × (getD l n 0 ≤ getD l i 0)
@@ -134,7 +134,7 @@ ready-more : (s l : List ℕ) (n : ℕ) (m : Model) → Acceptable s l (suc n) m
 unfolding pathOf
 ready-more s l n m h =
     let v = h .valid in
-    let b = passes-before (entry s l n) (pathOf s l n) m (h .passes) in
+    let b = passes-before (modelAt s l n) (pathOf s l n) m (h .passes) in
     let w = within m (h .passes .range) in
     record {
       some = omega arith;

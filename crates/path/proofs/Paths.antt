@@ -8,7 +8,7 @@ use native.Mathlib.Numerals.{add-one}
 use native.Mathlib.Omega.{arith}
 use lib.ListN.{getD, length, take, length-append}
 use lib.Seq.{take-suc}
-use Rattle.path.specs.Model.{Model, model, pathOf, sizesOf, lossesOf}
+use Rattle.path.specs.Model.{Model, model, modelAt, pathOf, sizesOf, lossesOf}
 use Rattle.path.specs.Update.{holds, kept, testsMade}
 use Rattle.path.specs.Refusal.{inRange, follows, ordered}
 use Rattle.path.specs.Scan.{keptOf}
@@ -17,10 +17,6 @@ pub length-path : (s l : List ℕ) (n : ℕ) → length (pathOf s l n) ≡ n
 unfolding pathOf
 length-path s l zero = refl
 length-path s l (suc n) = ap suc (length-path s l n)
-
--- entry i of two lists
-abbrev pub entry : List ℕ → List ℕ → ℕ → Model
-entry s l i = model (getD s i 0) (getD l i 0)
 
 pub sizes-path : (s l : List ℕ) (n : ℕ) → n ≤ length s → sizesOf (pathOf s l n) ≡ take n s
 unfolding pathOf sizesOf
@@ -59,18 +55,18 @@ pub kept-front : (s l : List ℕ) (m : Model) (n : ℕ) → kept (pathOf s l n) 
 unfolding pathOf kept
 kept-front s l m zero = refl
 kept-front s l m (suc zero) = refl
-kept-front s l m (suc (suc n)) = by-test (holds (entry s l n) (entry s l (suc n)) m) (kept-front s l m (suc n))
+kept-front s l m (suc (suc n)) = by-test (holds (modelAt s l n) (modelAt s l (suc n)) m) (kept-front s l m (suc n))
   where
     by-test : (b : Bool) → kept (pathOf s l (suc n)) m ≡ pathOf s l (length (kept (pathOf s l (suc n)) m)) → cond b (pathOf s l (suc (suc n))) (kept (pathOf s l (suc n)) m) ≡ pathOf s l (length (cond b (pathOf s l (suc (suc n))) (kept (pathOf s l (suc n)) m)))
     by-test true h = ap (pathOf s l) (sym (length-path s l (suc (suc n))))
     by-test false h = h
 
 -- ---- one turn of the scan
-kept-turn : (s l : List ℕ) (m : Model) (a : ℕ) → kept (pathOf s l (suc (suc a))) m ≡ cond (holds (entry s l a) (entry s l (suc a)) m) (pathOf s l (suc (suc a))) (kept (pathOf s l (suc a)) m)
+kept-turn : (s l : List ℕ) (m : Model) (a : ℕ) → kept (pathOf s l (suc (suc a))) m ≡ cond (holds (modelAt s l a) (modelAt s l (suc a)) m) (pathOf s l (suc (suc a))) (kept (pathOf s l (suc a)) m)
 unfolding pathOf kept
 kept-turn s l m a = refl
 
-tests-turn : (s l : List ℕ) (m : Model) (a : ℕ) → testsMade (pathOf s l (suc (suc a))) m ≡ cond (holds (entry s l a) (entry s l (suc a)) m) 1 (suc (testsMade (pathOf s l (suc a)) m))
+tests-turn : (s l : List ℕ) (m : Model) (a : ℕ) → testsMade (pathOf s l (suc (suc a))) m ≡ cond (holds (modelAt s l a) (modelAt s l (suc a)) m) 1 (suc (testsMade (pathOf s l (suc a)) m))
 unfolding pathOf testsMade
 tests-turn s l m a = refl
 
@@ -83,15 +79,15 @@ unfolding pathOf kept testsMade
 keeps-first s l m e = rw e (refl, refl)
 
 module _ (s l : List ℕ) (m : Model) (i a b : ℕ) (e : b ≡ suc a) (f : i ≡ suc b) where
-  pub keeps-all : holds (entry s l a) (entry s l b) m ≡ true → (length (kept (pathOf s l i) m) ≡ i) × (testsMade (pathOf s l i) m ≡ 1)
+  pub keeps-all : holds (modelAt s l a) (modelAt s l b) m ≡ true → (length (kept (pathOf s l i) m) ≡ i) × (testsMade (pathOf s l i) m ≡ 1)
   keeps-all h =
-      let h' : holds (entry s l a) (entry s l (suc a)) m ≡ true = subst (λ (k : ℕ). holds (entry s l a) (entry s l k) m ≡ true) e h in
+      let h' : holds (modelAt s l a) (modelAt s l (suc a)) m ≡ true = subst (λ (k : ℕ). holds (modelAt s l a) (modelAt s l k) m ≡ true) e h in
       let q : i ≡ suc (suc a) = f ∙ ap suc e in
       rw (q, kept-turn s l m a, tests-turn s l m a, h') (length-path s l (suc (suc a)), refl)
 
-  pub drops-last : holds (entry s l a) (entry s l b) m ≡ false → (kept (pathOf s l i) m ≡ kept (pathOf s l b) m) × (testsMade (pathOf s l i) m ≡ suc (testsMade (pathOf s l b) m))
+  pub drops-last : holds (modelAt s l a) (modelAt s l b) m ≡ false → (kept (pathOf s l i) m ≡ kept (pathOf s l b) m) × (testsMade (pathOf s l i) m ≡ suc (testsMade (pathOf s l b) m))
   drops-last h =
-      let h' : holds (entry s l a) (entry s l (suc a)) m ≡ false = subst (λ (k : ℕ). holds (entry s l a) (entry s l k) m ≡ false) e h in
+      let h' : holds (modelAt s l a) (modelAt s l (suc a)) m ≡ false = subst (λ (k : ℕ). holds (modelAt s l a) (modelAt s l k) m ≡ false) e h in
       let q : i ≡ suc (suc a) = f ∙ ap suc e in
       rw (q, e, kept-turn s l m a, tests-turn s l m a, h') (refl, refl)
 
@@ -100,23 +96,23 @@ pub ordered-none : (s l : List ℕ) {i : ℕ} → i ≡ 0 → ordered (pathOf s 
 unfolding pathOf ordered
 ordered-none s l e = rw e
 
-pub ordered-one : (s l : List ℕ) {i : ℕ} → i ≡ 1 → ordered (pathOf s l i) ≡ inRange (entry s l 0)
+pub ordered-one : (s l : List ℕ) {i : ℕ} → i ≡ 1 → ordered (pathOf s l i) ≡ inRange (modelAt s l 0)
 unfolding pathOf ordered
 ordered-one s l e = rw e
 
-pub ordered-turn : (s l : List ℕ) (a : ℕ) → ordered (pathOf s l (suc (suc a))) ≡ (inRange (entry s l (suc a)) && follows (entry s l a) (entry s l (suc a)) && ordered (pathOf s l (suc a)))
+pub ordered-turn : (s l : List ℕ) (a : ℕ) → ordered (pathOf s l (suc (suc a))) ≡ (inRange (modelAt s l (suc a)) && follows (modelAt s l a) (modelAt s l (suc a)) && ordered (pathOf s l (suc a)))
 unfolding pathOf ordered
 ordered-turn s l a = refl
 
 module _ (s l : List ℕ) (i a b : ℕ) (e : b ≡ suc a) (f : i ≡ suc b) where
-  ordered-at : ordered (pathOf s l i) ≡ (inRange (entry s l b) && follows (entry s l a) (entry s l b) && ordered (pathOf s l b))
+  ordered-at : ordered (pathOf s l i) ≡ (inRange (modelAt s l b) && follows (modelAt s l a) (modelAt s l b) && ordered (pathOf s l b))
   ordered-at = rw (f, e) (ordered-turn s l a)
 
-  pub range-fails : inRange (entry s l b) ≡ false → ordered (pathOf s l i) ≡ false
-  range-fails h = ordered-at ∙ ap (λ (t : Bool). t && follows (entry s l a) (entry s l b) && ordered (pathOf s l b)) h
+  pub range-fails : inRange (modelAt s l b) ≡ false → ordered (pathOf s l i) ≡ false
+  range-fails h = ordered-at ∙ ap (λ (t : Bool). t && follows (modelAt s l a) (modelAt s l b) && ordered (pathOf s l b)) h
 
-  pub order-fails : inRange (entry s l b) ≡ true → follows (entry s l a) (entry s l b) ≡ false → ordered (pathOf s l i) ≡ false
+  pub order-fails : inRange (modelAt s l b) ≡ true → follows (modelAt s l a) (modelAt s l b) ≡ false → ordered (pathOf s l i) ≡ false
   order-fails h g = rw (ordered-at, h, g)
 
-  pub entry-passes : inRange (entry s l b) ≡ true → follows (entry s l a) (entry s l b) ≡ true → ordered (pathOf s l i) ≡ ordered (pathOf s l b)
+  pub entry-passes : inRange (modelAt s l b) ≡ true → follows (modelAt s l a) (modelAt s l b) ≡ true → ordered (pathOf s l i) ≡ ordered (pathOf s l b)
   entry-passes h g = rw (ordered-at, h, g)

@@ -1,0 +1,60 @@
+-- The whole outcome of writing out a path's breakpoints: unreduced fractions at the front of two buffers.
+use mathlib.Core.Bool.{cond, _&&_}
+use mathlib.Core.List.{List, [], _∷_, _++_}
+use Prim.Native.Nat.{ℕ}
+use lib.Dec.{leb, eqb}
+use lib.ListN.{length, drop}
+use Rattle.path.specs.Model.{pathOf}
+use Rattle.path.specs.Update.{Fraction, breakpointsOf}
+use Rattle.path.specs.Refusal.{Check, check, refusalOf, validPath}
+use Rattle.select.specs.declared.Listed.{Listed}
+
+-- the numerators of breakpoints, those of the first two entries first
+unfoldable pub numeratorsOf : List Fraction → List ℕ
+numeratorsOf [] = []
+numeratorsOf (b ∷ bs) = numeratorsOf bs ++ (b .numerator ∷ [])
+
+-- their denominators
+unfoldable pub denominatorsOf : List Fraction → List ℕ
+denominatorsOf [] = []
+denominatorsOf (b ∷ bs) = denominatorsOf bs ++ (b .denominator ∷ [])
+
+-- what the call leaves: the refusal (0: accepted), the number of breakpoints, and the two buffers
+pub record Outcome : Type 0 where
+  pub refusal : ℕ
+  pub count : ℕ
+  pub numerators : List ℕ
+  pub denominators : List ℕ
+
+-- an answer with the two buffers
+abbrev pub outcome : Listed → List ℕ → List ℕ → Outcome
+outcome r numerators denominators =
+    record { refusal = r .refusal; count = r .count; numerators = numerators; denominators = denominators }
+
+-- the checks of the call: 8, 9
+abbrev pub breakpointChecks : List ℕ → List ℕ → ℕ → ℕ → ℕ → List Check
+breakpointChecks sizes losses n numeratorsRoom denominatorsRoom =
+    check 8 (validPath sizes losses n)
+    ∷ check 9 (leb (length (breakpointsOf (pathOf sizes losses n))) numeratorsRoom && leb (length (breakpointsOf (pathOf sizes losses n))) denominatorsRoom)
+    ∷ []
+
+-- values at the front of a buffer, and the rest as it was
+abbrev pub fronted : List ℕ → List ℕ → List ℕ
+fronted front buffer = front ++ drop (length front) buffer
+
+-- the breakpoints of the path of n entries, written to two buffers
+unfoldable pub breakpointsIn : List ℕ → List ℕ → ℕ → List ℕ → List ℕ → Outcome
+breakpointsIn sizes losses n numerators denominators =
+    cond (eqb (refusalOf (breakpointChecks sizes losses n (length numerators) (length denominators))) 0)
+    (record {
+      refusal = 0;
+      count = length (breakpointsOf (pathOf sizes losses n));
+      numerators = fronted (numeratorsOf (breakpointsOf (pathOf sizes losses n))) numerators;
+      denominators = fronted (denominatorsOf (breakpointsOf (pathOf sizes losses n))) denominators;
+    })
+    (record {
+      refusal = refusalOf (breakpointChecks sizes losses n (length numerators) (length denominators));
+      count = 0;
+      numerators = numerators;
+      denominators = denominators;
+    })

@@ -1,0 +1,4 @@
+pub mod Penalty
+pub mod Select
+pub mod Breakpoints
+pub mod Listing

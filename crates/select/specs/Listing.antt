@@ -1,0 +1,23 @@
+-- What the loop that writes breakpoints asks of its input, and what it has written after i of them.
+use mathlib.Core.Path.{_≡_}
+use mathlib.Core.Bool.{true}
+use mathlib.Core.List.{List}
+use Prim.Native.Nat.{ℕ, suc, _≤_}
+use lib.ListN.{length}
+use Rattle.path.specs.Model.{pathOf}
+use Rattle.path.specs.Update.{breakpointsOf}
+use Rattle.path.specs.Refusal.{validPath}
+use Rattle.select.specs.Breakpoints.{numeratorsOf, denominatorsOf, fronted}
+
+-- a valid path of one entry more than there are breakpoints, and room for these
+pub record Listable (sizes losses : List ℕ) (count numeratorsRoom denominatorsRoom : ℕ) : Type 0 where
+  pub valid : validPath sizes losses (suc count) ≡ true
+  pub numerators-fit : count ≤ numeratorsRoom
+  pub denominators-fit : count ≤ denominatorsRoom
+
+-- the buffers hold the breakpoints of the first i + 1 entries
+pub record Written (sizes losses n₀ d₀ n d : List ℕ) (i : ℕ) : Type 0 where
+  pub numerators-long : length n ≡ length n₀
+  pub denominators-long : length d ≡ length d₀
+  pub numerators-are : n ≡ fronted (numeratorsOf (breakpointsOf (pathOf sizes losses (suc i)))) n₀
+  pub denominators-are : d ≡ fronted (denominatorsOf (breakpointsOf (pathOf sizes losses (suc i)))) d₀

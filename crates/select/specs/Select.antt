@@ -1,0 +1,42 @@
+-- The whole outcome of a selection, 01's choosing: the entry at which the walk from the first entry on ends.
+use mathlib.Core.Bool.{cond}
+use mathlib.Core.List.{List, [], _∷_}
+use Prim.Native.Nat.{ℕ, zero, suc, _-_}
+use lib.Dec.{ltb, leb, eqb}
+use lib.ListN.{getD}
+use Rattle.path.specs.Model.{modelAt}
+use Rattle.path.specs.Refusal.{Check, check, refusalOf, validPath}
+use Rattle.select.specs.Penalty.{validPenalty, cost}
+use Rattle.select.specs.declared.Selected.{Selected}
+
+-- from entry i on, with m entries after it: on while the next one costs strictly less
+unfoldable pub selectedFrom : List ℕ → List ℕ → ℕ → ℕ → ℕ → ℕ → ℕ
+selectedFrom sizes losses p q i zero = i
+selectedFrom sizes losses p q i (suc m) =
+    cond (ltb (cost p q (modelAt sizes losses (suc i))) (cost p q (modelAt sizes losses i)))
+    (selectedFrom sizes losses p q (suc i) m)
+    i
+
+-- the entry selected of n
+abbrev pub selected : List ℕ → List ℕ → ℕ → ℕ → ℕ → ℕ
+selected sizes losses n p q = selectedFrom sizes losses p q 0 (n - 1)
+
+-- the checks of a selection: 8, 10, 4
+abbrev pub selectChecks : List ℕ → List ℕ → ℕ → ℕ → ℕ → List Check
+selectChecks sizes losses n p q =
+    check 8 (validPath sizes losses n) ∷ check 10 (leb 1 n) ∷ check 4 (validPenalty p q) ∷ []
+
+-- the answer of a refused selection: its number and zeros
+abbrev pub unselected : ℕ → Selected
+unselected c = record { refusal = c; index = 0; size = 0; loss = 0 }
+
+-- the answer that gives entry i
+abbrev pub selection : List ℕ → List ℕ → ℕ → Selected
+selection sizes losses i = record { refusal = 0; index = i; size = getD sizes i 0; loss = getD losses i 0 }
+
+-- the selection from the path of n entries at the penalty p / q
+unfoldable pub selectOf : List ℕ → List ℕ → ℕ → ℕ → ℕ → Selected
+selectOf sizes losses n p q =
+    cond (eqb (refusalOf (selectChecks sizes losses n p q)) 0)
+    (selection sizes losses (selected sizes losses n p q))
+    (unselected (refusalOf (selectChecks sizes losses n p q)))
