@@ -2,17 +2,17 @@
 use mathlib.Core.Path.{_≡_, refl, ap, sym, _∙_}
 use mathlib.Core.Bool.{Bool, true, false, _&&_}
 use mathlib.Core.List.{List, [], _∷_, _++_}
-use Prim.Native.Nat.{ℕ, _+_, _-_, _≤_, _<_, max}
+use Prim.Native.Nat.{ℕ, _+_, _-_, _≤_, _<_}
 use native.Mathlib.Omega.{arith}
 use lib.Dec.{leb}
-use lib.ListN.{length, take, drop, replicate}
+use lib.ListN.{length, replicate}
 use borrow.Author.Tests.{le-leb, lt-leb}
-use borrow.Rule.Slice.PartMut.{putMid, post-is}
-use Rattle.path.specs.Model.{Model, pathOf, sizesOf, lossesOf}
+use borrow.Rule.Slice.PartMut.{putMid}
+use Rattle.path.specs.Model.{sizesOf, lossesOf}
 use Rattle.path.specs.Refusal.{Check, check, refusalOf}
 use Rattle.path.specs.Buffer.{laid}
 use Rattle.path.specs.Append.{Outcome, refused, filled}
-use Rattle.path.proofs.Paths.{length-path, sizes-path, losses-path, length-sizes, length-losses}
+use Rattle.path.proofs.Held.{held-length, sizes-laid, losses-laid}
 use Rattle.path.proofs.Checks.{check-fails, check-passes, fails-early, passes-on}
 use Rattle.path.proofs.Cases.{refuses, accepts}
 use Rattle.build.specs.Build.{built, builtTests, countOf, listChecks, buildChecks, buildOf}
@@ -63,12 +63,6 @@ module _ (a b : List ℕ) (sizesRoom lossesRoom n : ℕ) (e : n ≡ countOf a b)
         all-pass g h =
             room-decides ∙ check-passes room [] (rw (le-leb count sizesRoom (omega arith), le-leb count lossesRoom (omega arith)))
 
--- a front of k places, the zeros after it and what lies beyond
-laid-after : (s s₀ front : List ℕ) (k n : ℕ) → k ≤ n → length front ≡ k → front ≡ take k s → drop n s ≡ drop n s₀ → putMid k (n - k) s (replicate (n - k) 0) ≡ laid front n s₀
-laid-after s s₀ front k n h e g d =
-    let m : max n k ≡ n = omega arith in
-    rw (post-is k n s h, e, m, ← g, d)
-
 module _ (a b s₀ l₀ : List ℕ) where
   pub build-refused : (c : ℕ) → c ≡ refusalOf (buildChecks a b (length s₀) (length l₀)) → (c ≡ 0 → ⊥) → refused c s₀ l₀ ≡ buildOf a b s₀ l₀
   unfolding buildOf
@@ -82,11 +76,9 @@ module _ (a b s₀ l₀ : List ℕ) where
       let n = length a in
       let path = built a b n in
       let ok = fillable a b (length s₀) (length l₀) h in
-      let entries : length path ≡ k = ap length (sym (f .path)) ∙ length-path s l k in
-      let sizes : putMid k (n - k) s (replicate (n - k) 0) ≡ laid (sizesOf path) n s₀ =
-      laid-after s s₀ (sizesOf path) k n (f .most) (length-sizes path ∙ entries) (ap sizesOf (sym (f .path)) ∙ sizes-path s l k (omega (arith, f .most, f .sizes-long, ok .1 .sizes-fit))) (f .sizes-rest) in
-      let losses : putMid k (n - k) l (replicate (n - k) 0) ≡ laid (lossesOf path) n l₀ =
-      laid-after l l₀ (lossesOf path) k n (f .most) (length-losses path ∙ entries) (ap lossesOf (sym (f .path)) ∙ losses-path s l k (omega (arith, f .most, f .losses-long, ok .1 .losses-fit))) (f .losses-rest) in
+      let entries : length path ≡ k = held-length path s₀ l₀ s l k n (f .held) in
+      let sizes : putMid k (n - k) s (replicate (n - k) 0) ≡ laid (sizesOf path) n s₀ = sizes-laid path s₀ l₀ s l k n (f .held) (ok .1 .sizes-fit) (ok .1 .losses-fit) in
+      let losses : putMid k (n - k) l (replicate (n - k) 0) ≡ laid (lossesOf path) n l₀ = losses-laid path s₀ l₀ s l k n (f .held) (ok .1 .sizes-fit) (ok .1 .losses-fit) in
       let done : record { refusal = 0; entries = k; tests = t; sizes = s'; losses = l' } ≡ filled (built a b (countOf a b)) (builtTests a b (countOf a b)) (countOf a b) s₀ l₀ =
       rw (ok .0, x, y, sizes, losses, entries, f .counted) in
       done ∙ accepts (λ c. refused c s₀ l₀) _ (buildChecks a b (length s₀) (length l₀)) h

@@ -13,7 +13,8 @@ use Rattle.path.specs.Model.{Model, modelAt, pathOf}
 use Rattle.path.specs.Update.{Fraction, breakpoint, breakpointsOf}
 use Rattle.path.specs.Refusal.{check, refusalOf, validPath}
 use Rattle.path.proofs.Checks.{both, passed, check-fails, check-passes}
-use Rattle.select.specs.Breakpoints.{numeratorsOf, denominatorsOf, fronted, Outcome, breakpointChecks, breakpointsIn}
+use Rattle.path.specs.Buffer.{fronted}
+use Rattle.select.specs.Breakpoints.{numeratorsOf, denominatorsOf, Outcome, breakpointChecks, breakpointsIn}
 use Rattle.select.specs.Listing.{Listable, Written}
 
 pub length-breakpoints : (s l : List ℕ) (n : ℕ) → length (breakpointsOf (pathOf s l (suc n))) ≡ n

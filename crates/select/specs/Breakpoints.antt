@@ -3,10 +3,11 @@ use mathlib.Core.Bool.{cond, _&&_}
 use mathlib.Core.List.{List, [], _∷_, _++_}
 use Prim.Native.Nat.{ℕ}
 use lib.Dec.{leb, eqb}
-use lib.ListN.{length, drop}
+use lib.ListN.{length}
 use Rattle.path.specs.Model.{pathOf}
 use Rattle.path.specs.Update.{Fraction, breakpointsOf}
 use Rattle.path.specs.Refusal.{Check, check, refusalOf, validPath}
+use Rattle.path.specs.Buffer.{fronted}
 use Rattle.select.specs.declared.Listed.{Listed}
 
 -- the numerators of breakpoints, those of the first two entries first
@@ -37,10 +38,6 @@ breakpointChecks sizes losses n numeratorsRoom denominatorsRoom =
     check 8 (validPath sizes losses n)
     ∷ check 9 (leb (length (breakpointsOf (pathOf sizes losses n))) numeratorsRoom && leb (length (breakpointsOf (pathOf sizes losses n))) denominatorsRoom)
     ∷ []
-
--- values at the front of a buffer, and the rest as it was
-abbrev pub fronted : List ℕ → List ℕ → List ℕ
-fronted front buffer = front ++ drop (length front) buffer
 
 -- the breakpoints of the path of n entries, written to two buffers
 unfoldable pub breakpointsIn : List ℕ → List ℕ → ℕ → List ℕ → List ℕ → Outcome

@@ -7,7 +7,8 @@ use lib.ListN.{length}
 use Rattle.path.specs.Model.{pathOf}
 use Rattle.path.specs.Update.{breakpointsOf}
 use Rattle.path.specs.Refusal.{validPath}
-use Rattle.select.specs.Breakpoints.{numeratorsOf, denominatorsOf, fronted}
+use Rattle.path.specs.Buffer.{fronted}
+use Rattle.select.specs.Breakpoints.{numeratorsOf, denominatorsOf}
 
 -- a valid path of one entry more than there are breakpoints, and room for these
 pub record Listable (sizes losses : List ℕ) (count numeratorsRoom denominatorsRoom : ℕ) : Type 0 where

@@ -46,7 +46,7 @@ part-clear-end c =
     let a = c .before .before .before .before .before .before .before .before .before .before .before .before .before .args in
     let r = c .before .before .before .before .before .before .before .before .build-refusal in
     let ok = fillable (a .sizes .now) (a .losses .now) (length (a .path-sizes .now)) (length (a .path-losses .now)) (sym (r .ensures) ∙ c .before .before .before .before .before .before .before .if1 .left) .1 in
-    omega (arith, ok .sizes-fit, c .before .before .before .before .fill .ensures .sizes-long)
+    omega (arith, ok .sizes-fit, c .before .before .before .before .fill .ensures .held .sizes-long)
 
 clear-requires : tie.Need-clear-requires
 clear-requires c κs = search needs
@@ -65,7 +65,7 @@ part-clear-end-2 c =
     let a = c .before .before .before .before .before .before .before .before .before .before .before .before .before .before .before .before .before .args in
     let r = c .before .before .before .before .before .before .before .before .before .before .before .before .build-refusal in
     let ok = fillable (a .sizes .now) (a .losses .now) (length (a .path-sizes .now)) (length (a .path-losses .now)) (sym (r .ensures) ∙ c .before .before .before .before .before .before .before .before .before .before .before .if1 .left) .1 in
-    omega (arith, ok .losses-fit, c .before .before .before .before .before .before .before .before .fill .ensures .losses-long)
+    omega (arith, ok .losses-fit, c .before .before .before .before .before .before .before .before .fill .ensures .held .losses-long)
 
 clear-requires-2 : tie.Need-clear-requires-2
 clear-requires-2 c κs = search needs
@@ -88,8 +88,8 @@ returns-2 c =
     let s = f .last .1 .1 .0 in
     let l = f .last .1 .1 .1 .0 in
     build-done (a .sizes .now) (a .losses .now) (a .path-sizes .now) (a .path-losses .now) none s l _ _ k (f .result .tests) (f .ensures)
-    (ap (putMid k (n - k) s) (c .before .before .before .before .before .before .clear .ensures ∙ ap (λ (m : ℕ). replicate m 0) (mid-len k n s (omega (arith, ok .sizes-fit, f .ensures .sizes-long)))))
-    (ap (putMid k (n - k) l) (c .before .before .clear2 .ensures ∙ ap (λ (m : ℕ). replicate m 0) (mid-len k n l (omega (arith, ok .losses-fit, f .ensures .losses-long)))))
+    (ap (putMid k (n - k) s) (c .before .before .before .before .before .before .clear .ensures ∙ ap (λ (m : ℕ). replicate m 0) (mid-len k n s (omega (arith, ok .sizes-fit, f .ensures .held .sizes-long)))))
+    (ap (putMid k (n - k) l) (c .before .before .clear2 .ensures ∙ ap (λ (m : ℕ). replicate m 0) (mid-len k n l (omega (arith, ok .losses-fit, f .ensures .held .losses-long)))))
 
 pub build-spec : {M : Type 1} → statement M
 build-spec =

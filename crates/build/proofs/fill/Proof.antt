@@ -56,16 +56,16 @@ try-model-requires c κs =
     may-try (a .sizes .now) (a .losses .now) (a .path-sizes .now) (a .path-losses .now) (lp .path-sizes) (lp .path-losses) (lp .entries) (lp .tests) (lp .i) (lp .inv) (c .before .before .before .before .before .before .before .before .before .before .pre) (c .before .before .before .before .loop-test .taken)
 
 mul-path-sizes : tie.Need-mul-path-sizes Inv-loop μ-loop
-mul-path-sizes c = omega (arith, fits c, c .before .before .before .before .before .before .loop .inv .sizes-long, c .before .before .before .before .before .before .before .before .before .before .before .pre .sizes-fit)
+mul-path-sizes c = omega (arith, fits c, c .before .before .before .before .before .before .loop .inv .held .sizes-long, c .before .before .before .before .before .before .before .before .before .before .before .pre .sizes-fit)
 
 slice-write-path-sizes : tie.Need-slice-write-path-sizes Inv-loop μ-loop
-slice-write-path-sizes c = omega (arith, fits c, c .before .before .before .before .before .before .loop .inv .sizes-long, c .before .before .before .before .before .before .before .before .before .before .before .pre .sizes-fit)
+slice-write-path-sizes c = omega (arith, fits c, c .before .before .before .before .before .before .loop .inv .held .sizes-long, c .before .before .before .before .before .before .before .before .before .before .before .pre .sizes-fit)
 
 mul-path-losses : tie.Need-mul-path-losses Inv-loop μ-loop
-mul-path-losses c = omega (arith, fits c, c .before .before .before .before .before .before .loop .inv .losses-long, c .before .before .before .before .before .before .before .before .before .before .before .pre .losses-fit)
+mul-path-losses c = omega (arith, fits c, c .before .before .before .before .before .before .loop .inv .held .losses-long, c .before .before .before .before .before .before .before .before .before .before .before .pre .losses-fit)
 
 slice-write-path-losses : tie.Need-slice-write-path-losses Inv-loop μ-loop
-slice-write-path-losses c = omega (arith, fits c, c .before .before .before .before .before .before .loop .inv .losses-long, c .before .before .before .before .before .before .before .before .before .before .before .pre .losses-fit)
+slice-write-path-losses c = omega (arith, fits c, c .before .before .before .before .before .before .loop .inv .held .losses-long, c .before .before .before .before .before .before .before .before .before .before .before .pre .losses-fit)
 
 add-entries : tie.Need-add-entries Inv-loop μ-loop
 add-entries c = omega (arith, fits c, c .before .before .before .before .before .before .before .before .before .before .before .pre .few)
@@ -87,10 +87,10 @@ loop-again c =
     filled-more (a .sizes .now) (a .losses .now) (a .path-sizes .now) (a .path-losses .now) (lp .path-sizes) (lp .path-losses) (lp .entries) (lp .tests) (lp .i) (lp .inv) (c .before .before .before .before .before .before .before .before .before .before .before .before .pre) (c .before .before .before .before .before .before .loop-test .taken) (found .result .entries) (found .result .tests) (ap (λ (x : Kept). x .entries) (found .ensures)) (ap (λ (x : Kept). x .tests) (found .ensures))
 
 same-length : tie.Need-same-length Inv-loop μ-loop
-same-length c = c .before .loop .inv .sizes-long
+same-length c = c .before .loop .inv .held .sizes-long
 
 same-length-2 : tie.Need-same-length-2 Inv-loop μ-loop
-same-length-2 c = c .before .loop .inv .losses-long
+same-length-2 c = c .before .loop .inv .held .losses-long
 
 returns : tie.Need-returns Inv-loop μ-loop
 returns c =

@@ -1,0 +1,1 @@
+-- The starred figures of 01, gathered in one table with one proof over it: what the definitions compute is what 01 says.

@@ -1,0 +1,175 @@
+-- `least::pick_start` meets its contract. The invariant: of the places scanned, from the end of the signal's part down to i, `start`
+-- is the earliest with the least loss. Each turn takes or keeps; where a segment's own loss exceeds the least, so do the losses
+-- from all places further left, since a segment's loss only grows to the left.
+use mathlib.Core.Path.{_≡_, ap, subst}
+use mathlib.Core.List.{List}
+use Prim.Native.Nat.{ℕ, _+_, _*_, _-_, _≤_, _<_}
+use native.Mathlib.Omega.{arith}
+use lib.IntN.{ℤ}
+use lib.ListN.{length, getD}
+use lib.Seq.{slice}
+use Rattle.segment.specs.Segment.{segmentLoss}
+use Rattle.least.specs.Earliest.{Earliest}
+use Rattle.least.specs.Segmentation.{joined, lastStart}
+use Rattle.least.specs.Table.{rowOf, PickFrom, Picked}
+use Rattle.least.proofs.Earliest.{earliest-one, earliest-start, down-take, down-keep, down-all}
+use Rattle.least.proofs.LeastLosses.{ready-small, slice-low, loss-grows, lastStart-earliest}
+use Rattle.least.proofs.pick_start.Statement.{statement}
+use Rattle.least.proofs.pick_start.Tie as tie
+
+-- Of the places from i to the end, `start` is the earliest with the least loss.
+record Scan (xs : List ℤ) (row : List ℕ) (low to i start loss : ℕ) : Type 0 where
+  above : low ≤ i
+  below : i < to
+  is : loss ≡ joined xs (rowOf row) to start
+  earliest : Earliest (joined xs (rowOf row) to) i to start
+
+-- A loss before and a segment's own loss together are small.
+sum-low : {xs : List ℤ} {sums squares row : List ℕ} {low to v : ℕ} → PickFrom xs sums squares row low to → (i : ℕ) → low ≤ i → i < to → v ≡ segmentLoss (slice i to xs) → getD row i 0 + v ≤ 4294836225 * 512
+sum-low {xs} {to = to} p i l u e =
+    omega (arith, p .row-low i l u, slice-low xs (ready-small (p .ready)) i to u (p .within), p .ready .count)
+
+module _ {xs : List ℤ} {row : List ℕ} {low to : ℕ} where
+  -- The last place alone.
+  scan-start : {v : ℕ} → low < to → v ≡ segmentLoss (slice (to - 1) to xs) → Scan xs row low to (to - 1) (to - 1) (getD row (to - 1) 0 + v)
+  unfolding joined
+  scan-start h e =
+      let k : to - 1 + 1 ≡ to = omega arith in
+      record {
+        above = omega arith;
+        below = omega arith;
+        is = ap (λ (v : ℕ). getD row (to - 1) 0 + v) e;
+        earliest = subst (λ (m : ℕ). Earliest (joined xs (rowOf row) to) (to - 1) m (to - 1)) k (earliest-start (joined xs (rowOf row) to) (to - 1));
+      }
+
+  -- What the scan has found when all places are done with.
+  picked : {start loss : ℕ} → low < to → loss ≡ joined xs (rowOf row) to start → Earliest (joined xs (rowOf row) to) low to start → Picked xs row low to loss start
+  picked {start} h e p = record { start-is = earliest-one (joined xs (rowOf row) to) low to start (lastStart xs (rowOf row) low to) p (lastStart-earliest xs (rowOf row) low to h); loss-is = e }
+
+  -- The scan has reached the lowest place.
+  scan-end : {i start loss : ℕ} → Scan xs row low to i start loss → i ≤ low → Picked xs row low to loss start
+  scan-end {i} {start} scan h =
+      let k : i ≡ low = omega (arith, scan .above) in
+      picked (omega (arith, scan .below)) (scan .is) (subst (λ (m : ℕ). Earliest (joined xs (rowOf row) to) m to start) k (scan .earliest))
+
+  module _ {i start loss v : ℕ} (scan : Scan xs row low to i start loss) (more : low < i) (e : v ≡ segmentLoss (slice (i - 1) to xs)) where
+    -- What is found so far, as of the places past the next one.
+    lower : Earliest (joined xs (rowOf row) to) (i - 1 + 1) to start
+    lower = let k : i ≡ i - 1 + 1 = omega arith in subst (λ (m : ℕ). Earliest (joined xs (rowOf row) to) m to start) k (scan .earliest)
+
+    -- The sum that the code makes is the loss from the next place.
+    joined-is : getD row (i - 1) 0 + v ≡ joined xs (rowOf row) to (i - 1)
+    unfolding joined
+    joined-is = ap (λ (v : ℕ). getD row (i - 1) 0 + v) e
+
+    -- The next place is as good: it is taken.
+    scan-take : getD row (i - 1) 0 + v ≤ loss → Scan xs row low to (i - 1) (i - 1) (getD row (i - 1) 0 + v)
+    scan-take h = record {
+      above = omega arith;
+      below = omega (arith, scan .below);
+      is = joined-is;
+      earliest = down-take (joined xs (rowOf row) to) (i - 1) to start lower (omega (arith, joined-is, scan .is));
+    }
+
+    -- It is worse: the old place stays.
+    scan-keep : loss < getD row (i - 1) 0 + v → Scan xs row low to (i - 1) start loss
+    scan-keep h = record {
+      above = omega arith;
+      below = omega (arith, scan .below);
+      is = scan .is;
+      earliest = down-keep (joined xs (rowOf row) to) (i - 1) to start lower (omega (arith, joined-is, scan .is));
+    }
+
+    -- Its segment's own loss exceeds the least: no place further left can be as good.
+    scan-stop : to ≤ length xs → loss < v → Picked xs row low to loss start
+    unfolding joined
+    scan-stop hto h =
+        picked (omega (arith, scan .below)) (scan .is)
+        (down-all (joined xs (rowOf row) to) low i to start (scan .earliest) (omega arith)
+        (λ t l u. omega (arith, loss-grows xs t (i - 1) to (omega arith) (omega (arith, scan .below)) hto, scan .is, e)))
+
+abbrev Inv-loop : tie.InvT-loop
+Inv-loop samples sums squares row low to i₀ start₀ least₀ i start least = Scan samples row low to i start least
+
+abbrev μ-loop : tie.MeasureT-loop
+μ-loop samples sums squares row low to i₀ start₀ least₀ i start least = i
+
+sub-i : tie.Need-sub-i Inv-loop μ-loop
+sub-i c = omega arith
+
+mul-least : tie.Need-mul-least Inv-loop μ-loop
+mul-least c = omega arith
+
+shared-slice-read-least : tie.Need-shared-slice-read-least Inv-loop μ-loop
+shared-slice-read-least c = omega arith
+
+segment-loss-requires : tie.Need-segment-loss-requires Inv-loop μ-loop
+segment-loss-requires c κs = (c .before .before .before .before .pre .ready, (omega arith, omega arith))
+
+add-least : tie.Need-add-least Inv-loop μ-loop
+add-least c =
+    let s = c .before .before .before .before .before in
+    record { fits = omega (arith, sum-low (s .pre) (s .args .to - 1) (omega arith) (omega arith) (c .segment-loss .ensures)) }
+
+loop-holds : tie.Need-loop-holds Inv-loop μ-loop
+loop-holds c = scan-start (omega arith) (c .segment-loss .ensures)
+
+sub-i-2 : tie.Need-sub-i-2 Inv-loop μ-loop
+sub-i-2 c = omega arith
+
+segment-loss-requires-2 : tie.Need-segment-loss-requires-2 Inv-loop μ-loop
+segment-loss-requires-2 c κs = (c .before .before .before .before .before .before .before .pre .ready, (omega arith, omega arith))
+
+returns : tie.Need-returns Inv-loop μ-loop
+returns c = scan-stop (c .before .before .before .loop .inv) (omega arith) (c .before .segment-loss2 .ensures) (omega arith) (omega arith)
+
+mul-sum : tie.Need-mul-sum Inv-loop μ-loop
+mul-sum c = omega arith
+
+shared-slice-read-sum : tie.Need-shared-slice-read-sum Inv-loop μ-loop
+shared-slice-read-sum c = omega arith
+
+add-sum : tie.Need-add-sum Inv-loop μ-loop
+add-sum c =
+    let l = c .before .before .before .before in
+    let s = l .before .before .before .before .before .before in
+    record { fits = omega (arith, sum-low (s .pre) (l .loop .i - 1) (omega arith) (omega arith) (c .before .before .segment-loss2 .ensures)) }
+
+loop-less : tie.Need-loop-less Inv-loop μ-loop
+loop-less c = omega arith
+
+loop-again : tie.Need-loop-again Inv-loop μ-loop
+loop-again c = scan-take (c .before .before .before .before .before .loop .inv) (omega arith) (c .before .before .before .segment-loss2 .ensures) (omega arith)
+
+loop-less-2 : tie.Need-loop-less-2 Inv-loop μ-loop
+loop-less-2 c = omega arith
+
+loop-again-2 : tie.Need-loop-again-2 Inv-loop μ-loop
+loop-again-2 c = scan-keep (c .before .before .before .before .before .loop .inv) (omega arith) (c .before .before .before .segment-loss2 .ensures) (omega arith)
+
+returns-2 : tie.Need-returns-2 Inv-loop μ-loop
+returns-2 c = scan-end (c .before .loop .inv) (omega arith)
+
+pub pick-start-spec : {M : Type 1} → statement M
+pick-start-spec =
+    tie.close
+    (tie.spec
+    Inv-loop
+    μ-loop
+    sub-i
+    mul-least
+    shared-slice-read-least
+    segment-loss-requires
+    add-least
+    loop-holds
+    sub-i-2
+    segment-loss-requires-2
+    returns
+    mul-sum
+    shared-slice-read-sum
+    add-sum
+    loop-less
+    loop-again
+    loop-less-2
+    loop-again-2
+    returns-2)

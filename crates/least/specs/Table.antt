@@ -1,0 +1,107 @@
+-- What stands in memory while least losses are computed: a row of losses, the table of starts in the scratch bytes, and what each
+-- function asks for and leaves. A start in the table is the number of samples before the last segment, as `lastStart` has it.
+use mathlib.Core.Path.{_≡_}
+use Prim.Native.Nat.{ℕ, suc, _+_, _*_, _-_, _≤_, _<_}
+use mathlib.Core.List.{List}
+use lib.IntN.{ℤ}
+use lib.ListN.{length, getD, take}
+use Rattle.layout.specs.Item.{item}
+use Rattle.segment.specs.Prefix.{Ready}
+use Rattle.least.specs.Segmentation.{joined, lastStart, least, startsOf, chosen}
+
+-- The number of scratch bytes that the table of starts takes: 31 rows of 512 starts of two bytes.
+abbrev pub scratchLen : ℕ
+scratchLen = 31744
+
+-- The byte at which the start of the last of m + 2 segments over the first j samples stands.
+abbrev pub startPlace : ℕ → ℕ → ℕ
+startPlace m j = 2 * (512 * m + (j - 1))
+
+-- Cell j of the row is the least loss of m + 1 segments over the first j samples.
+pub record RowIs (xs : List ℤ) (m : ℕ) (row : List ℕ) : Type 0 where
+  pub is : (j : ℕ) → m < j → j ≤ length xs → getD row j 0 ≡ least xs m j
+
+-- Row m of the table has the starts of the last of m + 2 segments.
+pub record StartsAre (xs : List ℤ) (m : ℕ) (scratch : List ℕ) : Type 0 where
+  pub are : (j : ℕ) → m + 1 < j → j ≤ length xs → item 2 scratch (startPlace m j) ≡ lastStart xs (least xs m) (suc m) j
+
+-- The losses before a last segment, as the row has them.
+abbrev pub rowOf : List ℕ → ℕ → ℕ
+rowOf row i = getD row i 0
+
+-- What a search for the last segment's start asks for: the prefix sums, a start between low and to, and a row of losses that are
+-- small enough to add to.
+pub record PickFrom (xs : List ℤ) (sums squares row : List ℕ) (low to : ℕ) : Type 0 where
+  pub ready : Ready xs sums squares
+  pub some : low < to
+  pub within : to ≤ length xs
+  pub len-row : length row ≡ 513
+  pub row-low : (i : ℕ) → low ≤ i → i < to → getD row i 0 ≤ 4294836225 * i
+
+-- What such a search finds: the earliest of the best starts, and the loss with it.
+pub record Picked (xs : List ℤ) (row : List ℕ) (low to loss start : ℕ) : Type 0 where
+  pub start-is : start ≡ lastStart xs (rowOf row) low to
+  pub loss-is : loss ≡ joined xs (rowOf row) to start
+
+-- What the step from m + 1 to m + 2 segments asks for.
+pub record NextFrom (xs : List ℤ) (sums squares row scratch : List ℕ) (m : ℕ) : Type 0 where
+  pub ready : Ready xs sums squares
+  pub few : m < 31
+  pub more : m + 1 < length xs
+  pub len-row : length row ≡ 513
+  pub len-scratch : scratchLen ≤ length scratch
+  pub row-is : RowIs xs m row
+
+-- What it leaves: the next row, row m of the table, and the rows before as they were.
+pub record NextRow (xs : List ℤ) (m : ℕ) (row before after : List ℕ) : Type 0 where
+  pub row-is : RowIs xs (suc m) row
+  pub starts-are : StartsAre xs m after
+  pub kept : (i : ℕ) → i < 1024 * m → getD after i 0 ≡ getD before i 0
+
+-- What the fill of all rows for 1 to k segments asks for.
+pub record RowsFrom (xs : List ℤ) (sums squares row losses scratch : List ℕ) (k : ℕ) : Type 0 where
+  pub ready : Ready xs sums squares
+  pub some : 0 < k
+  pub few : k ≤ 32
+  pub enough : k ≤ length xs
+  pub len-row : length row ≡ 513
+  pub len-losses : k ≤ length losses
+  pub len-scratch : scratchLen ≤ length scratch
+  pub row-is : RowIs xs 0 row
+
+-- What it leaves: the least losses of 1 to k segments over the whole signal, and the table of starts.
+pub record Table (xs : List ℤ) (k : ℕ) (losses scratch : List ℕ) : Type 0 where
+  pub losses-are : (m : ℕ) → m < k → getD losses m 0 ≡ least xs m (length xs)
+  pub starts-are : (m : ℕ) → m + 1 < k → StartsAre xs m scratch
+
+-- What the call that makes the table asks for.
+pub record TableFrom (xs : List ℤ) (k : ℕ) (losses scratch : List ℕ) : Type 0 where
+  pub some : 0 < length xs
+  pub short : length xs ≤ 512
+  pub one : 0 < k
+  pub few : k ≤ 32
+  pub len-losses : 32 ≤ length losses
+  pub len-scratch : scratchLen ≤ length scratch
+
+-- What the trace-back of k segments asks for: the table up to k segments, and room for k starts.
+pub record TraceFrom (xs : List ℤ) (scratch starts : List ℕ) (k : ℕ) : Type 0 where
+  pub short : length xs ≤ 512
+  pub one : 0 < k
+  pub few : k ≤ 32
+  pub enough : k ≤ length xs
+  pub len-scratch : scratchLen ≤ length scratch
+  pub len-starts : k ≤ length starts
+  pub starts-are : (m : ℕ) → m + 1 < k → StartsAre xs m scratch
+
+-- What the levels of k segments are made from: the starts of the chosen segmentation, and room for k levels.
+pub record LevelsFrom (xs : List ℤ) (starts : List ℕ) (levels : List ℤ) (k : ℕ) : Type 0 where
+  pub short : length xs ≤ 512
+  pub one : 0 < k
+  pub enough : k ≤ length xs
+  pub len-levels : k ≤ length levels
+  pub starts-are : take k starts ≡ startsOf (chosen xs (k - 1) (length xs))
+
+-- The same with the prefix sums at hand.
+pub record LevelsReady (xs : List ℤ) (sums squares starts : List ℕ) (levels : List ℤ) (k : ℕ) : Type 0 where
+  pub ready : Ready xs sums squares
+  pub asked : LevelsFrom xs starts levels k

@@ -1,0 +1,77 @@
+// One segment of a signal: its level, its loss, and the prefix sums from which both are had in constant time.
+// Contracts speak of the samples as whole numbers. Inside, a sample is raised by 32,768, so that sums are natural numbers.
+ghost use mathlib.Core.Path.{_≡_};
+ghost use Prim.Native.Nat.{_+_, _<_, _≤_};
+ghost use lib.IntN.{pos, natAbs};
+ghost use lib.Signed.{_≤ℤ_};
+ghost use lib.ListN.{length};
+ghost use lib.Seq.{slice};
+ghost use Rattle.segment.specs.Segment.{level, levelOf, segmentLoss};
+ghost use Rattle.segment.specs.Prefix.{raised, Prefixes, Ready};
+
+// The whole number nearest sum / len; of two equally near, the lower.
+pub fn level(sum: i32, len: i32) -> i32
+    requires { ⌜ (natAbs sum ≤ 16777216) × ((pos 1 ≤ℤ len) × (len ≤ℤ pos 65536)) ⌝ }
+    ensures { λ r. ⌜ r ≡ level sum (natAbs len) ⌝ }
+{
+    let q = sum / len;
+    let r = sum % len;
+    let d = r + r;
+    if d > len {
+        return q + 1;
+    }
+    if d <= 0 - len {
+        return q - 1;
+    }
+    q
+}
+
+// A sample raised by 32,768.
+fn raise(x: i16) -> u32
+    ensures { λ r. ⌜ (r ≡ raised x) × (r < 65536) ⌝ }
+{
+    (x as i32 + 32768) as u32
+}
+
+// For each j the sum of the first j raised samples, and the sum of their squares.
+pub fn prefix_sums(samples: &[i16], sums: &mut [u32], squares: &mut [u64])
+    requires { ⌜ (length (now samples) ≤ 512) × ((length (now sums) ≡ 513) × (length (now squares) ≡ 513)) ⌝ }
+    ensures { λ r. ⌜ Prefixes (length (now (samples .entry)) + 1) (now (samples .entry)) (now (sums .exit)) (now (squares .exit)) ⌝ }
+{
+    let mut i = 0;
+    let mut sum: u32 = 0;
+    let mut square: u64 = 0;
+    sums[0] = 0;
+    squares[0] = 0;
+    while i < samples.len() {
+        let v = raise(samples[i]);
+        let wide = v as u64;
+        sum += v;
+        square += wide * wide;
+        i += 1;
+        sums[i] = sum;
+        squares[i] = square;
+    }
+}
+
+// The level of the segment of samples from + 1 to to. The samples and the squares are lent for the contract alone.
+pub fn segment_level(samples: &[i16], sums: &[u32], squares: &[u64], from: usize, to: usize) -> i16
+    requires { ⌜ Ready (now samples) (now sums) (now squares) × ((from < to) × (to ≤ length (now samples))) ⌝ }
+    ensures { λ r. ⌜ r ≡ levelOf (slice from to (now (samples .entry))) ⌝ }
+{
+    let n = (to - from) as i32;
+    let sum = (sums[to] - sums[from]) as i32;
+    level(sum - 32768 * n, n) as i16
+}
+
+// The loss of the segment of samples from + 1 to to, at its level. The samples are lent for the contract alone.
+pub fn segment_loss(samples: &[i16], sums: &[u32], squares: &[u64], from: usize, to: usize) -> u64
+    requires { ⌜ Ready (now samples) (now sums) (now squares) × ((from < to) × (to ≤ length (now samples))) ⌝ }
+    ensures { λ r. ⌜ r ≡ segmentLoss (slice from to (now (samples .entry))) ⌝ }
+{
+    let v = raise(segment_level(samples, sums, squares, from, to)) as u64;
+    let n = (to - from) as u64;
+    let sum = (sums[to] - sums[from]) as u64;
+    let square = squares[to] - squares[from];
+    square + n * (v * v) - 2 * (v * sum)
+}
