@@ -69,9 +69,10 @@ pub record RowsFrom (xs : List ℤ) (sums squares row losses scratch : List ℕ)
   pub len-scratch : scratchLen ≤ length scratch
   pub row-is : RowIs xs 0 row
 
--- What it leaves: the least losses of 1 to k segments over the whole signal, and the table of starts.
+-- What it leaves: the least losses of 1 to k segments over the whole signal, none of them large, and the table of starts.
 pub record Table (xs : List ℤ) (k : ℕ) (losses scratch : List ℕ) : Type 0 where
   pub losses-are : (m : ℕ) → m < k → getD losses m 0 ≡ least xs m (length xs)
+  pub losses-low : (m : ℕ) → m < k → least xs m (length xs) ≤ 4294836225 * 512
   pub starts-are : (m : ℕ) → m + 1 < k → StartsAre xs m scratch
 
 -- What the call that makes the table asks for.

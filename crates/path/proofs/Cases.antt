@@ -10,10 +10,11 @@ use lib.ListN.{length, take}
 use borrow.Author.Tests.{eq-eqb, ne-eqb}
 use Rattle.path.specs.Model.{Model, pathOf, sizesOf, lossesOf}
 use Rattle.path.specs.Update.{kept, extended, testsMade}
-use Rattle.path.specs.Refusal.{Check, check, refusalOf, validPath, modelChecks, roomFor}
+use Rattle.path.specs.Refusal.{Check, check, refusalOf, validPath, modelChecks, roomFor, inRange, sizeAbove, lossBelow}
 use Rattle.path.specs.Buffer.{laid}
 use Rattle.path.specs.Append.{Outcome, appendChecks, appendOf, refused, filled}
 use Rattle.path.proofs.Paths.{sizes-path, losses-path, kept-front, length-path}
+use Rattle.path.proofs.Order.{Passes}
 use Rattle.path.proofs.Checks.{check-fails, check-passes, fails-early, passes-on}
 
 -- an outcome by the refusal that the checks give
@@ -56,3 +57,15 @@ module _ (s l : List ℕ) (n : ℕ) (m : Model) where
         let entries : length (extended (pathOf s l n) m) ≡ k + 1 = omega arith in
         let done : record { refusal = 0; entries = k + 1; tests = t; sizes = s'; losses = l' } ≡ filled (extended (pathOf s l n) m) (testsMade (pathOf s l n) m) n s l = rw (x, y, z, sizes, losses, entries) in
         done ∙ accepts (λ c. refused c s l) _ (appendChecks s l n m) (last-check ∙ check-passes (check 9 (roomFor s l (suc k))) [] h)
+
+-- an append of a model that passes its checks, to a valid path with room
+pub append-filled : (s l : List ℕ) (n : ℕ) (m : Model) → validPath s l n ≡ true → Passes (pathOf s l n) m → roomFor s l (length (extended (pathOf s l n) m)) ≡ true
+    → appendOf s l n m ≡ filled (extended (pathOf s l n) m) (testsMade (pathOf s l n) m) n s l
+unfolding appendOf refusalOf
+append-filled s l n m v p r = rw (v, p .range, p .size, p .loss, r)
+
+-- a model that is refused for its loss alone
+pub input-seven : (s l : List ℕ) (n : ℕ) (m : Model) → validPath s l n ≡ true → inRange m ≡ true → sizeAbove (pathOf s l n) m ≡ true → lossBelow (pathOf s l n) m ≡ false
+    → refusalOf (check 8 (validPath s l n) ∷ modelChecks (pathOf s l n) m) ≡ 7
+unfolding refusalOf
+input-seven s l n m v r a b = rw (v, r, a, b)

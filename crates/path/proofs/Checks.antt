@@ -18,6 +18,10 @@ abbrev pub numbered : List Check → Bool
 numbered [] = true
 numbered (c ∷ cs) = ltb 0 (c .number) && numbered cs
 
+pub none-fail : refusalOf [] ≡ 0
+unfolding refusalOf
+none-fail = refl
+
 pub check-fails : (c : Check) (cs : List Check) → c .passes ≡ false → refusalOf (c ∷ cs) ≡ c .number
 unfolding refusalOf
 check-fails c cs h = rw h

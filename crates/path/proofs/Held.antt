@@ -1,7 +1,7 @@
 -- Laws of buffers that hold a path: at the start, after a model that is pushed or passed over, and once the places after the
 -- path are cleared.
 use mathlib.Core.Path.{_≡_, refl, ap, sym, _∙_}
-use mathlib.Core.Bool.{true, _&&_}
+use mathlib.Core.Bool.{true, false, _&&_}
 use mathlib.Core.List.{List, [], _∷_, _++_}
 use Prim.Native.Nat.{ℕ, suc, _+_, _-_, _≤_, _<_, max}
 use native.Mathlib.Nat.{ne-of-lt}
@@ -11,13 +11,16 @@ use lib.Seq.{getD-set-same, getD-set-other, drop-set-lt, drop-drop}
 use borrow.Author.Tests.{le-leb}
 use borrow.Rule.Slice.PartMut.{putMid, post-is}
 use Rattle.path.specs.Model.{Model, model, pathOf, sizesOf, lossesOf}
-use Rattle.path.specs.Update.{kept, extended}
-use Rattle.path.specs.Refusal.{check, refusalOf, ordered, validPath, modelChecks}
+use Rattle.path.specs.Update.{kept, extended, testsMade}
+use Rattle.path.specs.Refusal.{check, refusalOf, ordered, validPath, modelChecks, inRange, sizeAbove, lossBelow}
+use Rattle.path.specs.Append.{appendOf, refused, filled}
 use Rattle.path.specs.Buffer.{laid, Held}
 use Rattle.path.proofs.Paths.{length-path, sizes-path, losses-path, length-sizes, length-losses, path-more, kept-front}
 use Rattle.path.proofs.Checks.{check-passes}
 use Rattle.path.proofs.Order.{Passes, model-accepted}
 use Rattle.path.proofs.Updates.{kept-few, extended-ordered}
+use Rattle.path.proofs.Buffers.{path-laid, length-laid, laid-rest}
+use Rattle.path.proofs.Cases.{append-filled, input-seven, input-refused}
 
 pub held-none : (s l : List ℕ) → Held [] s l s l 0 0
 unfolding pathOf ordered
@@ -88,6 +91,40 @@ module _ (path : List Model) (s₀ l₀ s l : List ℕ) (n i : ℕ) (h : Held pa
             sizes-rest = drop-set-lt (i + 1) s k (m .size) (omega (arith, kept-within)) ∙ rest-later s s₀ i (h .sizes-rest);
             losses-rest = drop-set-lt (i + 1) l k (m .loss) (omega (arith, kept-within)) ∙ rest-later l l₀ i (h .losses-rest);
           }
+
+-- a model is appended, or refused for its loss alone
+module _ (path : List Model) (s₀ l₀ s l : List ℕ) (n i : ℕ) (h : Held path s₀ l₀ s l n i) (in-s : i < length s₀) (in-l : i < length l₀) (few : i < 4096) where
+  held-valid : validPath s l n ≡ true
+  unfolding validPath
+  held-valid =
+      rw (le-leb n (length s) (omega (arith, h .sizes-long, h .most)), le-leb n (length l) (omega (arith, h .losses-long, h .most)), le-leb n 4096 (omega (arith, h .most))) (h .order)
+
+  module _ (m : Model) where
+    pub held-append : Passes path m → (appendOf s l n m .refusal ≡ 0) × Held (extended path m) s₀ l₀ (appendOf s l n m .sizes) (appendOf s l n m .losses) (appendOf s l n m .entries) (i + 1)
+    held-append p =
+        let all = extended (pathOf s l n) m in
+        let p' : Passes (pathOf s l n) m = rw (h .is) p in
+        let k : length all ≤ i + 1 = omega (arith, kept-few (pathOf s l n) m, length-path s l n, h .most) in
+        let done : appendOf s l n m ≡ filled all (testsMade (pathOf s l n) m) n s l =
+        append-filled s l n m held-valid p' (rw (le-leb (length all) (length s) (omega (arith, h .sizes-long)), le-leb (length all) (length l) (omega (arith, h .losses-long)), le-leb (length all) 4096 (omega arith))) in
+        rw done (
+          refl,
+          record {
+            most = k;
+            sizes-long = length-laid (sizesOf all) n s (omega (arith, length-sizes all, h .sizes-long)) (omega (arith, h .sizes-long, h .most)) ∙ h .sizes-long;
+            losses-long = length-laid (lossesOf all) n l (omega (arith, length-losses all, h .losses-long)) (omega (arith, h .losses-long, h .most)) ∙ h .losses-long;
+            is = path-laid all n s l ∙ ap (λ (st : List Model). extended st m) (h .is);
+            order = ap ordered (path-laid all n s l) ∙ extended-ordered (pathOf s l n) m (h .order) p';
+            sizes-rest = laid-rest (sizesOf all) n s (i + 1) (omega (arith, length-sizes all)) (omega (arith, h .most)) ∙ rest-later s s₀ i (h .sizes-rest);
+            losses-rest = laid-rest (lossesOf all) n l (i + 1) (omega (arith, length-losses all)) (omega (arith, h .most)) ∙ rest-later l l₀ i (h .losses-rest);
+          },
+        )
+
+    pub held-refused : inRange m ≡ true → sizeAbove path m ≡ true → lossBelow path m ≡ false → appendOf s l n m ≡ refused 7 s l
+    held-refused r a b =
+        let a' : sizeAbove (pathOf s l n) m ≡ true = rw (h .is) a in
+        let b' : lossBelow (pathOf s l n) m ≡ false = rw (h .is) b in
+        sym (input-refused s l n m 7 (sym (input-seven s l n m held-valid r a' b')) (λ z. omega arith))
 
 -- a front of k places, the zeros after it and what lies beyond
 laid-after : (s s₀ front : List ℕ) (k i : ℕ) → k ≤ i → length front ≡ k → front ≡ take k s → drop i s ≡ drop i s₀ → putMid k (i - k) s (replicate (i - k) 0) ≡ laid front i s₀

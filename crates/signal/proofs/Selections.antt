@@ -1,0 +1,161 @@
+-- The entry of a signal's path at a penalty: it is the same from any buffers that hold the path, and the model of a size that
+-- occurs, so that the table has its segmentation.
+use mathlib.Core.Path.{_≡_, refl, ap, sym, subst, _∙_}
+use mathlib.Core.Bool.{Bool, true, false, cond, _&&_}
+use mathlib.Core.Logic.{⊎-elim}
+use mathlib.Core.List.{List, [], _∷_, _++_, append-nil}
+use Prim.Native.Nat.{ℕ, zero, suc, _+_, _-_, _≤_, _<_}
+use native.Mathlib.Nat.{not-suc-le-zero, eq-or-lt-of-le}
+use native.Mathlib.Omega.{arith}
+use lib.Dec.{ltb}
+use lib.IntN.{ℤ}
+use lib.ListN.{length, getD, take, drop}
+use borrow.Author.Tests.{le-leb}
+use Rattle.path.specs.Model.{Model, modelAt, pathOf, sizesOf, lossesOf}
+use Rattle.path.specs.Refusal.{refusalOf, ordered, validPath}
+use Rattle.path.specs.Buffer.{fronted}
+use Rattle.path.proofs.Paths.{length-path, length-sizes, length-losses}
+use Rattle.path.proofs.Order.{valid-parts}
+use Rattle.path.proofs.Buffers.{path-front}
+use Rattle.select.specs.Penalty.{validPenalty, cost}
+use Rattle.select.specs.Select.{selectedFrom, selected, selectChecks, selectOf, selection}
+use Rattle.select.specs.declared.Selected.{Selected}
+use Rattle.select.proofs.Walks.{Selectable, accepted, selected-within, select-done}
+use Rattle.least.specs.Segmentation.{least, chosen, startsOf, levelsOf, lossOf}
+use Rattle.least.specs.Table.{scratchLen, TraceFrom, LevelsFrom}
+use Rattle.least.proofs.Chosen.{starts-count, levels-count, starts-taken, chosen-loss}
+use Rattle.signal.specs.Signal.{modelOf, signalPath, segmentsAt, segmentation}
+use Rattle.signal.specs.Steps.{SegmentFrom, SegmentedAt}
+use Rattle.signal.proofs.Paths.{Sized, path-sized, path-some}
+
+-- buffers that hold the same path have the same model at each of its places
+pub same-places : (s l s' l' : List ℕ) (n : ℕ) → pathOf s l n ≡ pathOf s' l' n → (i : ℕ) → i < n → modelAt s l i ≡ modelAt s' l' i
+unfolding pathOf
+same-places s l s' l' zero e i h = absurd (not-suc-le-zero h)
+same-places s l s' l' (suc n) e i h =
+    let head : modelAt s l n ≡ modelAt s' l' n = cc in
+    let rest : pathOf s l n ≡ pathOf s' l' n = cc in
+    ⊎-elim (λ (q : i ≡ n). rw q head) (λ (q : i < n). same-places s l s' l' n rest i q) (eq-or-lt-of-le {n = i} {m = n} (omega arith))
+
+walks-agree : (s l s' l' : List ℕ) (n p q : ℕ) → pathOf s l n ≡ pathOf s' l' n → (m i : ℕ) → i + m < n → selectedFrom s l p q i m ≡ selectedFrom s' l' p q i m
+unfolding selectedFrom
+walks-agree s l s' l' n p q e zero i h = refl
+walks-agree s l s' l' n p q e (suc m) i h =
+    let here = same-places s l s' l' n e i (omega arith) in
+    let next = same-places s l s' l' n e (suc i) (omega arith) in
+    let later = walks-agree s l s' l' n p q e m (suc i) (omega arith) in
+    ap (λ (x : Model). cond (ltb (cost p q (modelAt s l (suc i))) (cost p q x)) (selectedFrom s l p q (suc i) m) i) here
+    ∙ ap (λ (x : Model). cond (ltb (cost p q x) (cost p q (modelAt s' l' i))) (selectedFrom s l p q (suc i) m) i) next
+    ∙ ap (λ (x : ℕ). cond (ltb (cost p q (modelAt s' l' (suc i))) (cost p q (modelAt s' l' i))) x i) later
+
+-- two valid lists that hold the same path select the same
+select-agrees : (s l s' l' : List ℕ) (n p q : ℕ) → pathOf s l n ≡ pathOf s' l' n → Selectable s l n p q → Selectable s' l' n p q → selectOf s l n p q ≡ selectOf s' l' n p q
+select-agrees s l s' l' n p q e a b =
+    let i = selected s l n p q in
+    let w = selected-within s l p q (n - 1) 0 in
+    let same : i ≡ selected s' l' n p q = walks-agree s l s' l' n p q e (n - 1) 0 (omega (arith, a .some)) in
+    let place = same-places s l s' l' n e i (omega (arith, a .some)) in
+    let answer : selection s l i ≡ selection s' l' i = ap (λ (m : Model). record { refusal = 0; index = i; size = m .size; loss = m .loss }) place in
+    sym (select-done s l n p q (accepted s l n p q a) i refl) ∙ answer ∙ select-done s' l' n p q (accepted s' l' n p q b) i same
+
+-- the path by itself, as two lists
+path-alone : (st : List Model) → pathOf (sizesOf st) (lossesOf st) (length st) ≡ st
+path-alone st =
+    subst (λ (l : List ℕ). pathOf (sizesOf st) l (length st) ≡ st) (append-nil (lossesOf st))
+    (subst (λ (s : List ℕ). pathOf s (lossesOf st ++ []) (length st) ≡ st) (append-nil (sizesOf st)) (path-front st [] []))
+
+sized-at : (xs : List ℤ) (k : ℕ) (s l : List ℕ) (n : ℕ) → Sized xs k (pathOf s l n) → (i : ℕ) → i < n → (m : ℕ) × (m < k) × (modelAt s l i ≡ modelOf xs m)
+unfolding pathOf
+sized-at xs k s l zero h i p = absurd (not-suc-le-zero p)
+sized-at xs k s l (suc n) h i p =
+    ⊎-elim (λ (q : i ≡ n). rw q (h .0)) (λ (q : i < n). sized-at xs k s l n (h .1) i q) (eq-or-lt-of-le {n = i} {m = n} (omega arith))
+
+-- what is selected from the path of a signal in any buffers
+pub record Entry (xs : List ℤ) (count p q : ℕ) (found : Selected) : Type 0 where
+  pub size-is : found .size ≡ segmentsAt (signalPath xs count) p q
+  pub last : ℕ
+  pub few : last < count
+  pub size : found .size ≡ suc last
+  pub loss : found .loss ≡ least xs last (length xs)
+
+module _ (xs : List ℤ) (count : ℕ) (s l : List ℕ) (n p q : ℕ) (w starts : List ℕ) (levels : List ℤ) (ok : SegmentFrom xs count s l n p q w starts levels) where
+  abbrev path : List Model
+  path = signalPath xs count
+
+  entries : n ≡ length path
+  entries = sym (length-path s l n) ∙ ap length (ok .path)
+
+  some : 1 ≤ n
+  some =
+      let e : count ≡ suc (count - 1) = omega (arith, ok .one) in
+      omega (arith, entries, ap (λ (k : ℕ). length (signalPath xs k)) e, path-some xs (count - 1))
+
+  in-buffers : Selectable s l n p q
+  in-buffers = record { valid = ok .valid; some = some; penalty = ok .penalty }
+
+  alone : Selectable (sizesOf path) (lossesOf path) n p q
+  unfolding validPath
+  alone =
+      let v = valid-parts s l n (ok .valid) in
+      let order : ordered (pathOf (sizesOf path) (lossesOf path) n) ≡ true = ap (λ (k : ℕ). ordered (pathOf (sizesOf path) (lossesOf path) k)) entries ∙ ap ordered (path-alone path ∙ sym (ok .path)) ∙ v .order in
+      record {
+        valid = rw (le-leb n (length (sizesOf path)) (omega (arith, length-sizes path, entries)), le-leb n (length (lossesOf path)) (omega (arith, length-losses path, entries)), le-leb n 4096 (v .few)) order;
+        some = some;
+        penalty = ok .penalty;
+      }
+
+  pub entry : (found : Selected) → found ≡ selectOf s l n p q → Entry xs count p q found
+  entry found e =
+      let same : pathOf s l n ≡ pathOf (sizesOf path) (lossesOf path) n = ok .path ∙ sym (path-alone path) ∙ ap (pathOf (sizesOf path) (lossesOf path)) (sym entries) in
+      let i = selected s l n p q in
+      let within = selected-within s l p q (n - 1) 0 in
+      let answer : found ≡ selection s l i = e ∙ sym (select-done s l n p q (accepted s l n p q in-buffers) i refl) in
+      let m = sized-at xs count s l n (rw (ok .path) (path-sized xs count)) i (omega (arith, some)) in
+      record {
+        size-is = ap (λ (r : Selected). r .size) (e ∙ select-agrees s l (sizesOf path) (lossesOf path) n p q same in-buffers alone) ∙ ap (λ (k : ℕ). selectOf (sizesOf path) (lossesOf path) k p q .size) entries;
+        last = m .0;
+        few = m .1;
+        size = ap (λ (r : Selected). r .size) answer ∙ ap (λ (x : Model). x .size) (m .2);
+        loss = ap (λ (r : Selected). r .loss) answer ∙ ap (λ (x : Model). x .loss) (m .2);
+      }
+
+  module _ (found : Selected) (h : Entry xs count p q found) where
+    pub may-trace : TraceFrom xs w starts (found .size)
+    may-trace =
+        record {
+          short = ok .short;
+          one = omega (arith, h .size);
+          few = omega (arith, h .size, h .few, ok .few);
+          enough = omega (arith, h .size, h .few, ok .enough);
+          len-scratch = ok .table .long;
+          len-starts = omega (arith, h .size, h .few, ok .starts-fit);
+          starts-are = λ m u. ok .table .starts-are m (omega (arith, h .size, h .few));
+        }
+
+    module _ (starts' : List ℕ) (e : starts' ≡ startsOf (segmentation xs (found .size)) ++ drop (found .size) starts) where
+      pub may-level : LevelsFrom xs starts' levels (found .size)
+      may-level =
+          record {
+            short = ok .short;
+            one = omega (arith, h .size);
+            enough = omega (arith, h .size, h .few, ok .enough);
+            len-levels = omega (arith, h .size, h .few, ok .levels-fit);
+            starts-are = starts-taken xs (found .size) (length xs) starts' (drop (found .size) starts) (omega (arith, h .size)) e;
+          }
+
+      pub segmented : (levels' : List ℤ) → levels' ≡ levelsOf (segmentation xs (found .size)) ++ drop (found .size) levels → SegmentedAt xs count p q starts levels starts' levels' found
+      segmented levels' f =
+          let k = found .size in
+          let one : suc (k - 1) ≡ k = omega (arith, h .size) in
+          let last : k - 1 ≡ h .last = omega (arith, h .size) in
+          let starts-long : length (startsOf (segmentation xs k)) ≡ k = starts-count xs (k - 1) (length xs) ∙ one in
+          let levels-long : length (levelsOf (segmentation xs k)) ≡ k = levels-count xs (k - 1) (length xs) ∙ one in
+          let loss : found .loss ≡ lossOf (segmentation xs k) = h .loss ∙ ap (λ (m : ℕ). least xs m (length xs)) (sym last) ∙ sym (chosen-loss xs (k - 1) (length xs)) in
+          let fs : starts' ≡ fronted (startsOf (segmentation xs k)) starts = e ∙ ap (λ (m : ℕ). startsOf (segmentation xs k) ++ drop m starts) (sym starts-long) in
+          let fl : levels' ≡ fronted (levelsOf (segmentation xs k)) levels = f ∙ ap (λ (m : ℕ). levelsOf (segmentation xs k) ++ drop m levels) (sym levels-long) in
+          record {
+            size-is = h .size-is;
+            loss-is = loss ∙ ap (λ (m : ℕ). lossOf (segmentation xs m)) (h .size-is);
+            starts-are = fs ∙ ap (λ (m : ℕ). fronted (startsOf (segmentation xs m)) starts) (h .size-is);
+            levels-are = fl ∙ ap (λ (m : ℕ). fronted (levelsOf (segmentation xs m)) levels) (h .size-is);
+          }

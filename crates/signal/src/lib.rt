@@ -1,0 +1,310 @@
+// The record calls: the path of a signal, and its segmentation at a penalty. Least losses come from the table of the crate
+// `least`, which stands in the lent scratch until the call ends; the scratch is then all zero.
+
+ghost use mathlib.Core.Path.{_≡_};
+ghost use mathlib.Core.Bool.{_&&_};
+ghost use mathlib.Core.List.{_∷_, []};
+ghost use Prim.Native.Nat.{ℕ, min, _≤_};
+ghost use lib.Dec.{leb};
+ghost use lib.ListN.{length, replicate};
+ghost use Rattle.path.specs.Refusal.{check, refusalOf};
+ghost use Rattle.path.specs.Buffer.{Held};
+ghost use Rattle.signal.specs.Signal.{signalPath};
+ghost use Rattle.signal.specs.Outcome.{inputChecks, pathFits, pathChecks, splitChecks, pathOutcome, signalPathOf, splitOutcome, splitOf};
+ghost use Rattle.signal.specs.Steps.{LossesFrom, Solvable, Solved, SegmentFrom, SegmentedAt};
+use least::fill_table;
+use least::put_levels;
+use least::trace_back;
+use select::Selected;
+
+// The answer of a path call: the refusal, 0 where it is accepted, and the number of entries.
+#[repr(C)]
+pub struct Pathed {
+    pub refusal: u64,
+    pub entries: usize,
+}
+
+// The answer of a split: the refusal, 0 where it is accepted, then the number of segments, their loss, and the number of
+// entries of the path.
+#[repr(C)]
+pub struct Segmented {
+    pub refusal: u64,
+    pub segments: usize,
+    pub loss: u64,
+    pub entries: usize,
+}
+
+// The smaller of two numbers.
+fn smaller(a: usize, b: usize) -> usize
+    ensures { λ r. ⌜ r ≡ min a b ⌝ }
+{
+    if a < b { a } else { b }
+}
+
+// The refusal of a signal of n samples or of a limit: the first of 1, 2 and 3, or 0.
+fn input_refusal(n: usize, max_segments: u64) -> u64
+    ensures { λ r. ⌜ r ≡ refusalOf (inputChecks n «max_segments») ⌝ }
+{
+    if n < 1 {
+        return 1;
+    }
+    if 512 < n {
+        return 2;
+    }
+    if max_segments < 1 {
+        return 3;
+    }
+    if 32 < max_segments {
+        return 3;
+    }
+    0
+}
+
+// Whether buffers of these lengths have room for a path of so many entries and for the table.
+fn path_fits(count: usize, sizes_room: usize, losses_room: usize, scratch_room: usize) -> bool
+    ensures { λ r. ⌜ r ≡ pathFits count (record { sizes = «sizes_room»; losses = «losses_room»; scratch = «scratch_room» }) ⌝ }
+{
+    if sizes_room < count {
+        return false;
+    }
+    if losses_room < count {
+        return false;
+    }
+    31744 <= scratch_room
+}
+
+// The refusal of a path call: the first of 1, 2, 3 and 9, or 0.
+fn path_refusal(
+    n: usize,
+    max_segments: u64,
+    sizes_room: usize,
+    losses_room: usize,
+    scratch_room: usize,
+) -> u64
+    ensures { λ r. ⌜ r ≡ refusalOf (pathChecks n «max_segments» (record { sizes = «sizes_room»; losses = «losses_room»; scratch = «scratch_room» })) ⌝ }
+{
+    let refusal = input_refusal(n, max_segments);
+    if refusal != 0 {
+        return refusal;
+    }
+    let count = smaller(max_segments as usize, n);
+    if !path_fits(count, sizes_room, losses_room, scratch_room) {
+        return 9;
+    }
+    0
+}
+
+// Whether buffers of these lengths have room for so many starts and levels.
+fn segments_fit(count: usize, starts_room: usize, levels_room: usize) -> bool
+    ensures { λ r. ⌜ r ≡ leb count «starts_room» && leb count «levels_room» ⌝ }
+{
+    if starts_room < count {
+        return false;
+    }
+    count <= levels_room
+}
+
+// The refusal of a split: the first of 1, 2, 3, 4 and 9, or 0.
+fn split_refusal(
+    n: usize,
+    max_segments: u64,
+    p: u64,
+    q: u64,
+    starts_room: usize,
+    levels_room: usize,
+    sizes_room: usize,
+    losses_room: usize,
+    scratch_room: usize,
+) -> u64
+    ensures { λ r. ⌜ r ≡ refusalOf (splitChecks n «max_segments» p q «starts_room» «levels_room» (record { sizes = «sizes_room»; losses = «losses_room»; scratch = «scratch_room» })) ⌝ }
+{
+    let refusal = input_refusal(n, max_segments);
+    if refusal != 0 {
+        return refusal;
+    }
+    if !select::valid_penalty(p, q) {
+        return 4;
+    }
+    let count = smaller(max_segments as usize, n);
+    if !segments_fit(count, starts_room, levels_room) {
+        return 9;
+    }
+    if !path_fits(count, sizes_room, losses_room, scratch_room) {
+        return 9;
+    }
+    0
+}
+
+// Appends sizes 1 to count in turn. One whose loss is not below that of the last one appended is refused by the append, and
+// so is skipped.
+fn fill_path(
+    samples: &[i16],
+    losses: &[u64],
+    count: usize,
+    path_sizes: &mut [u64],
+    path_losses: &mut [u64],
+) -> usize
+    requires { ⌜ LossesFrom (now samples) (now losses) count (length (now «path_sizes»)) (length (now «path_losses»)) ⌝ }
+    ensures { λ r. ⌜ Held (signalPath (now (samples .entry)) count) (now («path_sizes» .entry)) (now («path_losses» .entry)) (now («path_sizes» .exit)) (now («path_losses» .exit)) r count ⌝ }
+{
+    let mut entries = 0;
+    let mut i = 0;
+    while i < count {
+        let size = i as u64 + 1;
+        let appended = path::append(path_sizes, path_losses, entries, size, losses[i]);
+        if appended.refusal == 0 {
+            entries = appended.entries;
+        }
+        i += 1;
+    }
+    entries
+}
+
+// Fills the table in the scratch and the path of the signal in its buffers, with zeros after it as far as the largest size
+// that occurs. Returns the number of entries.
+pub fn make_path(
+    samples: &[i16],
+    max_segments: usize,
+    path_sizes: &mut [u64],
+    path_losses: &mut [u64],
+    scratch: &mut [u8],
+) -> usize
+    requires { ⌜ Solvable (now samples) «max_segments» (now «path_sizes») (now «path_losses») (now scratch) ⌝ }
+    ensures { λ r. ⌜ Solved (now (samples .entry)) «max_segments» (now («path_sizes» .entry)) (now («path_losses» .entry)) (now («path_sizes» .exit)) (now («path_losses» .exit)) (now (scratch .exit)) r ⌝ }
+{
+    let mut losses = [0u64; 32];
+    let count = fill_table(samples, max_segments, &mut losses, scratch);
+    let entries = fill_path(samples, &losses, count, path_sizes, path_losses);
+    path::clear(&mut path_sizes[entries..count]);
+    path::clear(&mut path_losses[entries..count]);
+    entries
+}
+
+// Writes the segmentation at the penalty p / q from the path and the table of up to count segments. Returns the path's
+// entry there.
+pub fn segment_at(
+    samples: &[i16],
+    count: usize,
+    path_sizes: &[u64],
+    path_losses: &[u64],
+    entries: usize,
+    p: u64,
+    q: u64,
+    scratch: &[u8],
+    starts: &mut [u16],
+    levels: &mut [i16],
+) -> Selected
+    requires { ⌜ SegmentFrom (now samples) count (now «path_sizes») (now «path_losses») entries p q (now scratch) (now starts) (now levels) ⌝ }
+    ensures { λ r. ⌜ SegmentedAt (now (samples .entry)) count p q (now (starts .entry)) (now (levels .entry)) (now (starts .exit)) (now (levels .exit)) r ⌝ }
+{
+    let found = select::select(path_sizes, path_losses, entries, p, q);
+    let segments = found.size as usize;
+    trace_back(samples, scratch, starts, segments);
+    put_levels(samples, starts, levels, segments);
+    found
+}
+
+// Writes 0 everywhere.
+fn clear_bytes(scratch: &mut [u8])
+    ensures { λ r. ⌜ now (scratch .exit) ≡ replicate (length (now (scratch .entry))) 0 ⌝ }
+{
+    let mut i = 0;
+    while i < scratch.len() {
+        scratch[i] = 0;
+        i += 1;
+    }
+}
+
+// The path of a signal: the sizes up to the limit that can be the cheapest at some penalty, with their losses.
+pub fn signal_path(
+    samples: &[i16],
+    max_segments: u64,
+    path_sizes: &mut [u64],
+    path_losses: &mut [u64],
+    scratch: &mut [u8],
+) -> Pathed
+    ensures { λ r. ⌜ pathOutcome r (now («path_sizes» .exit)) (now («path_losses» .exit)) (now (scratch .exit)) ≡ signalPathOf (now (samples .entry)) «max_segments» (now («path_sizes» .entry)) (now («path_losses» .entry)) (now (scratch .entry)) ⌝ }
+{
+    let refusal = path_refusal(
+        samples.len(),
+        max_segments,
+        path_sizes.len(),
+        path_losses.len(),
+        scratch.len(),
+    );
+    if refusal != 0 {
+        return Pathed {
+            refusal: refusal,
+            entries: 0,
+        };
+    }
+    let entries = make_path(
+        samples,
+        max_segments as usize,
+        path_sizes,
+        path_losses,
+        scratch,
+    );
+    clear_bytes(scratch);
+    Pathed {
+        refusal: 0,
+        entries: entries,
+    }
+}
+
+// The segmentation of a signal at the penalty p / q, and the signal's path.
+pub fn split(
+    samples: &[i16],
+    max_segments: u64,
+    p: u64,
+    q: u64,
+    starts: &mut [u16],
+    levels: &mut [i16],
+    path_sizes: &mut [u64],
+    path_losses: &mut [u64],
+    scratch: &mut [u8],
+) -> Segmented
+    ensures { λ r. ⌜ splitOutcome r (now (starts .exit)) (now (levels .exit)) (now («path_sizes» .exit)) (now («path_losses» .exit)) (now (scratch .exit)) ≡ splitOf (now (samples .entry)) «max_segments» p q (now (starts .entry)) (now (levels .entry)) (now («path_sizes» .entry)) (now («path_losses» .entry)) (now (scratch .entry)) ⌝ }
+{
+    let refusal = split_refusal(
+        samples.len(),
+        max_segments,
+        p,
+        q,
+        starts.len(),
+        levels.len(),
+        path_sizes.len(),
+        path_losses.len(),
+        scratch.len(),
+    );
+    if refusal != 0 {
+        return Segmented {
+            refusal: refusal,
+            segments: 0,
+            loss: 0,
+            entries: 0,
+        };
+    }
+    let limit = max_segments as usize;
+    let entries = make_path(samples, limit, path_sizes, path_losses, scratch);
+    let count = smaller(limit, samples.len());
+    let found = segment_at(
+        samples,
+        count,
+        path_sizes,
+        path_losses,
+        entries,
+        p,
+        q,
+        scratch,
+        starts,
+        levels,
+    );
+    clear_bytes(scratch);
+    Segmented {
+        refusal: 0,
+        segments: found.size as usize,
+        loss: found.loss,
+        entries: entries,
+    }
+}
