@@ -1,6 +1,6 @@
 -- `buildOf` and its checks by cases, and the buffers that an accepted build leaves.
 use mathlib.Core.Path.{_≡_, refl, ap, sym, _∙_}
-use mathlib.Core.Bool.{Bool, true, false, _&&_}
+use mathlib.Core.Bool.{_&&_}
 use mathlib.Core.List.{List, [], _∷_, _++_}
 use Prim.Native.Nat.{ℕ, _+_, _-_, _≤_, _<_}
 use native.Mathlib.Omega.{arith}
@@ -13,7 +13,7 @@ use Rattle.path.specs.Refusal.{Check, check, refusalOf}
 use Rattle.path.specs.Buffer.{laid}
 use Rattle.path.specs.Append.{Outcome, refused, filled}
 use Rattle.path.proofs.Held.{held-length, sizes-laid, losses-laid}
-use Rattle.path.proofs.Checks.{check-fails, check-passes, fails-early, passes-on}
+use Rattle.path.proofs.Checks.{check-fails, check-passes, fails-early, passes-on, refusal-is}
 use Rattle.path.proofs.Cases.{refuses, accepts}
 use Rattle.build.specs.Build.{built, builtTests, countOf, listChecks, buildChecks, buildOf}
 use Rattle.build.specs.Fill.{Filled}
@@ -68,10 +68,17 @@ module _ (a b s₀ l₀ : List ℕ) where
   unfolding buildOf
   build-refused c e h = refuses (λ c. refused c s₀ l₀) _ (buildChecks a b (length s₀) (length l₀)) c e h
 
+  pub build-refusal : buildOf a b s₀ l₀ .refusal ≡ refusalOf (buildChecks a b (length s₀) (length l₀))
+  unfolding buildOf
+  build-refusal = refusal-is (λ (o : Outcome). o .refusal) _ _ (refusalOf (buildChecks a b (length s₀) (length l₀))) refl refl
+
+  pub build-filled : refusalOf (buildChecks a b (length s₀) (length l₀)) ≡ 0 → filled (built a b (countOf a b)) (builtTests a b (countOf a b)) (countOf a b) s₀ l₀ ≡ buildOf a b s₀ l₀
+  unfolding buildOf
+  build-filled h = accepts (λ c. refused c s₀ l₀) _ (buildChecks a b (length s₀) (length l₀)) h
+
   pub build-done : refusalOf (buildChecks a b (length s₀) (length l₀)) ≡ 0 → (s l s' l' : List ℕ) (k t : ℕ) → Filled a b s₀ l₀ s l k t (length a)
       → s' ≡ putMid k (length a - k) s (replicate (length a - k) 0) → l' ≡ putMid k (length a - k) l (replicate (length a - k) 0)
       → record { refusal = 0; entries = k; tests = t; sizes = s'; losses = l' } ≡ buildOf a b s₀ l₀
-  unfolding buildOf
   build-done h s l s' l' k t f x y =
       let n = length a in
       let path = built a b n in
@@ -81,4 +88,4 @@ module _ (a b s₀ l₀ : List ℕ) where
       let losses : putMid k (n - k) l (replicate (n - k) 0) ≡ laid (lossesOf path) n l₀ = losses-laid path s₀ l₀ s l k n (f .held) (ok .1 .sizes-fit) (ok .1 .losses-fit) in
       let done : record { refusal = 0; entries = k; tests = t; sizes = s'; losses = l' } ≡ filled (built a b (countOf a b)) (builtTests a b (countOf a b)) (countOf a b) s₀ l₀ =
       rw (ok .0, x, y, sizes, losses, entries, f .counted) in
-      done ∙ accepts (λ c. refused c s₀ l₀) _ (buildChecks a b (length s₀) (length l₀)) h
+      done ∙ build-filled h

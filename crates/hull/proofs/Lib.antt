@@ -1,0 +1,13 @@
+pub mod Slopes
+pub mod Hulls
+pub mod Costs
+pub mod Winners
+pub mod Counts
+pub mod Selections
+pub mod Penalties
+pub mod Orders
+pub mod Appends
+pub mod Builds
+pub mod Histories
+pub mod Updates
+pub mod Figures

@@ -1,15 +1,14 @@
 -- The claims on paths, in the words of 01's demands. A fraction is any p / q with p ≥ 0 and q ≥ 1. The proofs are in proofs/,
 -- under the same names in small letters.
 use mathlib.Core.Path.{_≡_}
-use mathlib.Core.Bool.{Bool, true, false, _&&_}
+use mathlib.Core.Bool.{Bool, true, false}
 use mathlib.Core.Logic.{_⊎_}
-use mathlib.Core.List.{List, [], _∷_, _++_}
+use mathlib.Core.List.{List, [], _∷_}
 use Prim.Native.Nat.{ℕ, zero, suc, _+_, _*_, _-_, _≤_, _<_}
-use lib.Dec.{ltb}
 use lib.ListN.{length}
 use Rattle.path.specs.Model.{Model, model, modelAt, pathOf}
-use Rattle.path.specs.Update.{breakpoint, breakpointsOf, holds, kept, extended}
-use Rattle.path.specs.Refusal.{Check, refusalOf}
+use Rattle.path.specs.Update.{breakpoint, breakpointsOf, holds, kept}
+use Rattle.path.specs.Refusal.{Check}
 use Rattle.path.specs.Append.{appendChecks, appendOf}
 use Rattle.build.specs.Build.{countOf, buildChecks, buildOf}
 use Rattle.select.specs.Penalty.{validPenalty, cost}

@@ -8,7 +8,6 @@ use native.Mathlib.Nat.{ne-of-lt}
 use native.Mathlib.Omega.{arith}
 use lib.ListN.{length, set, take, drop, replicate, length-set}
 use lib.Seq.{getD-set-same, getD-set-other, drop-set-lt, drop-drop}
-use borrow.Author.Tests.{le-leb}
 use borrow.Rule.Slice.PartMut.{putMid, post-is}
 use Rattle.path.specs.Model.{Model, model, pathOf, sizesOf, lossesOf}
 use Rattle.path.specs.Update.{kept, extended, testsMade}
@@ -17,10 +16,10 @@ use Rattle.path.specs.Append.{appendOf, refused, filled}
 use Rattle.path.specs.Buffer.{laid, Held}
 use Rattle.path.proofs.Paths.{length-path, sizes-path, losses-path, length-sizes, length-losses, path-more, kept-front}
 use Rattle.path.proofs.Checks.{check-passes}
-use Rattle.path.proofs.Order.{Passes, model-accepted}
+use Rattle.path.proofs.Order.{Passes, model-accepted, valid-whole}
 use Rattle.path.proofs.Updates.{kept-few, extended-ordered}
 use Rattle.path.proofs.Buffers.{path-laid, length-laid, laid-rest}
-use Rattle.path.proofs.Cases.{append-filled, input-seven, input-refused}
+use Rattle.path.proofs.Cases.{append-filled, append-accepted, input-seven, input-refused}
 
 pub held-none : (s l : List ℕ) → Held [] s l s l 0 0
 unfolding pathOf ordered
@@ -48,6 +47,15 @@ module _ (path : List Model) (s₀ l₀ s l : List ℕ) (n i : ℕ) (h : Held pa
   pub held-length : length path ≡ n
   held-length = ap length (sym (h .is)) ∙ length-path s l n
 
+  pub held-valid : i ≤ length s₀ → i ≤ length l₀ → i ≤ 4096 → validPath s l n ≡ true
+  held-valid in-s in-l few =
+      valid-whole s l n record {
+        in-sizes = omega (arith, h .sizes-long, h .most);
+        in-losses = omega (arith, h .losses-long, h .most);
+        few = omega (arith, h .most);
+        order = h .order;
+      }
+
   -- a model is passed over
   pub held-skip : Held path s₀ l₀ s l n (i + 1)
   held-skip =
@@ -67,11 +75,8 @@ module _ (path : List Model) (s₀ l₀ s l : List ℕ) (n i : ℕ) (h : Held pa
     passes-held = rw (h .is) p
 
     pub held-may-try : i ≤ 4096 → refusalOf (check 8 (validPath s l n) ∷ modelChecks (pathOf s l n) m) ≡ 0
-    unfolding validPath
     held-may-try few =
-        check-passes (check 8 (validPath s l n)) (modelChecks (pathOf s l n) m)
-        (rw (le-leb n (length s) (omega (arith, h .sizes-long, h .most)), le-leb n (length l) (omega (arith, h .losses-long, h .most)), le-leb n 4096 (omega (arith, h .most))) (h .order))
-        ∙ model-accepted (pathOf s l n) m passes-held
+        check-passes (check 8 (validPath s l n)) (modelChecks (pathOf s l n) m) (held-valid (omega arith) (omega arith) few) ∙ model-accepted (pathOf s l n) m passes-held
 
     module _ (k : ℕ) (e : k ≡ length (kept (pathOf s l n) m)) where
       pub kept-within : k ≤ i
@@ -94,10 +99,8 @@ module _ (path : List Model) (s₀ l₀ s l : List ℕ) (n i : ℕ) (h : Held pa
 
 -- a model is appended, or refused for its loss alone
 module _ (path : List Model) (s₀ l₀ s l : List ℕ) (n i : ℕ) (h : Held path s₀ l₀ s l n i) (in-s : i < length s₀) (in-l : i < length l₀) (few : i < 4096) where
-  held-valid : validPath s l n ≡ true
-  unfolding validPath
-  held-valid =
-      rw (le-leb n (length s) (omega (arith, h .sizes-long, h .most)), le-leb n (length l) (omega (arith, h .losses-long, h .most)), le-leb n 4096 (omega (arith, h .most))) (h .order)
+  valid : validPath s l n ≡ true
+  valid = held-valid path s₀ l₀ s l n i h (omega arith) (omega arith) (omega arith)
 
   module _ (m : Model) where
     pub held-append : Passes path m → (appendOf s l n m .refusal ≡ 0) × Held (extended path m) s₀ l₀ (appendOf s l n m .sizes) (appendOf s l n m .losses) (appendOf s l n m .entries) (i + 1)
@@ -106,7 +109,7 @@ module _ (path : List Model) (s₀ l₀ s l : List ℕ) (n i : ℕ) (h : Held pa
         let p' : Passes (pathOf s l n) m = rw (h .is) p in
         let k : length all ≤ i + 1 = omega (arith, kept-few (pathOf s l n) m, length-path s l n, h .most) in
         let done : appendOf s l n m ≡ filled all (testsMade (pathOf s l n) m) n s l =
-        append-filled s l n m held-valid p' (rw (le-leb (length all) (length s) (omega (arith, h .sizes-long)), le-leb (length all) (length l) (omega (arith, h .losses-long)), le-leb (length all) 4096 (omega arith))) in
+        append-filled s l n m (append-accepted s l n m valid p' record { in-sizes = omega (arith, h .sizes-long); in-losses = omega (arith, h .losses-long); few = omega arith }) in
         rw done (
           refl,
           record {
@@ -124,7 +127,7 @@ module _ (path : List Model) (s₀ l₀ s l : List ℕ) (n i : ℕ) (h : Held pa
     held-refused r a b =
         let a' : sizeAbove (pathOf s l n) m ≡ true = rw (h .is) a in
         let b' : lossBelow (pathOf s l n) m ≡ false = rw (h .is) b in
-        sym (input-refused s l n m 7 (sym (input-seven s l n m held-valid r a' b')) (λ z. omega arith))
+        sym (input-refused s l n m 7 (sym (input-seven s l n m valid r a' b')) (λ z. omega arith))
 
 -- a front of k places, the zeros after it and what lies beyond
 laid-after : (s s₀ front : List ℕ) (k i : ℕ) → k ≤ i → length front ≡ k → front ≡ take k s → drop i s ≡ drop i s₀ → putMid k (i - k) s (replicate (i - k) 0) ≡ laid front i s₀

@@ -1,6 +1,6 @@
 -- What a path that is in order and a model that passes its checks tell of the numbers, and the checks of a model by cases.
-use mathlib.Core.Path.{_≡_, refl, ap, sym, _∙_}
-use mathlib.Core.Bool.{Bool, true, false, _&&_}
+use mathlib.Core.Path.{_≡_, refl}
+use mathlib.Core.Bool.{true, false, _&&_}
 use mathlib.Core.Logic.{⊎-elim}
 use mathlib.Core.List.{List, [], _∷_}
 use Prim.Native.Nat.{ℕ, zero, suc, _≤_, _<_}
@@ -8,12 +8,11 @@ use native.Mathlib.Nat.{eq-or-lt-of-le}
 use native.Mathlib.Omega.{arith}
 use lib.Dec.{ltb, leb}
 use lib.ListN.{getD, length}
-use borrow.Author.Tests.{ltb-true, leb-true}
+use borrow.Author.Tests.{ltb-true, leb-true, le-leb}
 use Rattle.path.specs.Model.{Model, modelAt, pathOf}
 use Rattle.path.specs.Refusal.{maxSize, maxLoss, inRange, follows, ordered, validPath, sizeAbove, lossBelow, check, modelChecks, refusalOf, roomFor}
-use Rattle.path.specs.Scan.{Comparable, Ready}
-use Rattle.path.proofs.Paths.{ordered-turn}
-use Rattle.path.proofs.Checks.{both, passed, check-fails, check-passes}
+use Rattle.path.specs.Scan.{Ready}
+use Rattle.path.proofs.Checks.{both, passed, check-fails}
 
 -- a model in range
 pub record Within (m : Model) : Type 0 where
@@ -75,7 +74,7 @@ module _ (s l : List ℕ) where
   ordered-within n i h p = within (modelAt s l i) (last-in-range i (ordered-front n (suc i) h p))
 
   -- an entry and the last one
-  ordered-ends : (n i : ℕ) → ordered (pathOf s l (suc n)) ≡ true → i ≤ n → (getD s i 0 ≤ getD s n 0) × (getD l n 0 ≤ getD l i 0)
+  pub ordered-ends : (n i : ℕ) → ordered (pathOf s l (suc n)) ≡ true → i ≤ n → (getD s i 0 ≤ getD s n 0) × (getD l n 0 ≤ getD l i 0)
   ordered-ends zero i h p = let e : i ≡ 0 = omega arith in rw e (omega arith, omega arith)
   ordered-ends (suc n) i h p =
       let a = ordered-near (suc (suc n)) n h (omega arith) in
@@ -96,6 +95,11 @@ valid-parts s l n h =
     let b = both (leb n (length s) && leb n (length l)) _ (a .0) in
     let d = both (leb n (length s)) _ (b .0) in
     record { in-sizes = leb-true _ _ (d .0); in-losses = leb-true _ _ (d .1); few = leb-true _ _ (b .1); order = a .1 }
+
+-- and put together
+pub valid-whole : (s l : List ℕ) (n : ℕ) → Valid s l n → validPath s l n ≡ true
+unfolding validPath
+valid-whole s l n h = rw (le-leb n (length s) (h .in-sizes), le-leb n (length l) (h .in-losses), le-leb n 4096 (h .few)) (h .order)
 
 -- a model that passes its checks
 pub record Passes (st : List Model) (m : Model) : Type 0 where
@@ -181,3 +185,7 @@ room-parts s l k h =
     let a = both (leb (suc k) (length s) && leb (suc k) (length l)) _ h in
     let b = both (leb (suc k) (length s)) _ (a .0) in
     record { in-sizes = leb-true _ _ (b .0); in-losses = leb-true _ _ (b .1); few = leb-true _ _ (a .1) }
+
+-- and put together
+pub room-whole : (s l : List ℕ) (k : ℕ) → Room s l k → roomFor s l (suc k) ≡ true
+room-whole s l k h = rw (le-leb (suc k) (length s) (h .in-sizes), le-leb (suc k) (length l) (h .in-losses), le-leb (suc k) 4096 (h .few))

@@ -2,8 +2,10 @@
 -- a new model keeps, which are the path's first ones.
 use mathlib.Core.Path.{_≡_, refl, ap, sym, subst, _∙_}
 use mathlib.Core.Bool.{Bool, true, false, cond, _&&_}
+use mathlib.Core.Logic.{⊎-elim}
 use mathlib.Core.List.{List, [], _∷_, _++_}
 use Prim.Native.Nat.{ℕ, zero, suc, _+_, _≤_, _<_}
+use native.Mathlib.Nat.{eq-or-lt-of-le, not-suc-le-zero}
 use native.Mathlib.Numerals.{add-one}
 use native.Mathlib.Omega.{arith}
 use lib.ListN.{getD, length, take, length-append}
@@ -44,6 +46,15 @@ unfolding pathOf
 path-agrees s l s' l' zero f g = refl
 path-agrees s l s' l' (suc k) f g =
     rw (f k (omega arith), g k (omega arith), path-agrees s l s' l' k (λ i p. f i (omega arith)) (λ i p. g i (omega arith)))
+
+-- and equal paths have equal entries at each place
+pub places-agree : (s l s' l' : List ℕ) (k : ℕ) → pathOf s' l' k ≡ pathOf s l k → (i : ℕ) → i < k → modelAt s' l' i ≡ modelAt s l i
+unfolding pathOf
+places-agree s l s' l' zero e i h = absurd (not-suc-le-zero h)
+places-agree s l s' l' (suc k) e i h =
+    let last : modelAt s' l' k ≡ modelAt s l k = cc in
+    let rest : pathOf s' l' k ≡ pathOf s l k = cc in
+    ⊎-elim (λ (q : suc i ≡ suc k). let f : i ≡ k = omega arith in rw f last) (λ q. places-agree s l s' l' k rest i (omega arith)) (eq-or-lt-of-le h)
 
 -- one place more
 pub path-more : (s l s' l' : List ℕ) (k size loss : ℕ) → getD s' k 0 ≡ size → getD l' k 0 ≡ loss → ((i : ℕ) → i < k → getD s' i 0 ≡ getD s i 0) → ((i : ℕ) → i < k → getD l' i 0 ≡ getD l i 0) → pathOf s' l' (k + 1) ≡ model size loss ∷ pathOf s l k

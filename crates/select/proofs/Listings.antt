@@ -1,6 +1,6 @@
 -- One turn of the loop that writes breakpoints, and `breakpointsIn` by cases.
 use mathlib.Core.Path.{_≡_, refl, ap, sym, _∙_}
-use mathlib.Core.Bool.{Bool, true, false, _&&_}
+use mathlib.Core.Bool.{true, _&&_}
 use mathlib.Core.List.{List, [], _∷_, _++_}
 use Prim.Native.Nat.{ℕ, zero, suc, _+_, _-_, _≤_, _<_}
 use native.Mathlib.Numerals.{add-one}
@@ -9,10 +9,10 @@ use lib.Dec.{leb}
 use lib.ListN.{length, getD, set, drop, length-append, length-set}
 use lib.Seq.{set-at, drop-cons, append-snoc}
 use borrow.Author.Tests.{le-leb, lt-leb, leb-true, ne-eqb}
-use Rattle.path.specs.Model.{Model, modelAt, pathOf}
+use Rattle.path.specs.Model.{modelAt, pathOf}
 use Rattle.path.specs.Update.{Fraction, breakpoint, breakpointsOf}
 use Rattle.path.specs.Refusal.{check, refusalOf, validPath}
-use Rattle.path.proofs.Checks.{both, passed, check-fails, check-passes}
+use Rattle.path.proofs.Checks.{both, passed, check-fails, check-passes, refusal-is}
 use Rattle.path.specs.Buffer.{fronted}
 use Rattle.select.specs.Breakpoints.{numeratorsOf, denominatorsOf, Outcome, breakpointChecks, breakpointsIn}
 use Rattle.select.specs.Listing.{Listable, Written}
@@ -101,6 +101,10 @@ module _ (s l : List ℕ) (n a b : ℕ) (v : validPath s l n ≡ true) where
 
 -- `breakpointsIn` by cases
 module _ (s l : List ℕ) (n : ℕ) (n₀ d₀ : List ℕ) where
+  pub breakpoints-refusal : breakpointsIn s l n n₀ d₀ .refusal ≡ refusalOf (breakpointChecks s l n (length n₀) (length d₀))
+  unfolding breakpointsIn
+  breakpoints-refusal = refusal-is (λ (o : Outcome). o .refusal) _ _ (refusalOf (breakpointChecks s l n (length n₀) (length d₀))) refl refl
+
   pub breakpoints-refused : (c : ℕ) → c ≡ refusalOf (breakpointChecks s l n (length n₀) (length d₀)) → (c ≡ 0 → ⊥)
       → record { refusal = c; count = 0; numerators = n₀; denominators = d₀ } ≡ breakpointsIn s l n n₀ d₀
   unfolding breakpointsIn

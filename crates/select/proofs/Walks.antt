@@ -1,19 +1,19 @@
 -- One turn of the walk of a selection, the ranges that keep a cost small, and `selectOf` by cases.
-use mathlib.Core.Path.{_≡_, refl, ap, sym, _∙_}
+use mathlib.Core.Path.{_≡_, refl, ap, _∙_}
 use mathlib.Core.Bool.{Bool, true, false, cond, _&&_}
-use mathlib.Core.List.{List, [], _∷_}
+use mathlib.Core.List.{List}
 use Prim.Native.Nat.{ℕ, zero, suc, _+_, _*_, _-_, _≤_, _<_}
 use native.Mathlib.Nat.{mul-le-mul, not-suc-le-zero}
 use native.Mathlib.Numerals.{add-one}
 use native.Mathlib.Omega.{arith}
 use lib.Dec.{ltb, leb}
-use lib.ListN.{getD, length}
-use borrow.Author.Tests.{lt-ltb, le-ltb, leb-true, le-leb, lt-leb, eq-eqb, ne-eqb}
-use Rattle.path.specs.Model.{Model, modelAt, pathOf}
+use borrow.Author.Tests.{lt-ltb, le-ltb, leb-true, le-leb, ne-eqb}
+use Rattle.path.specs.Model.{Model, modelAt}
 use Rattle.path.specs.Refusal.{check, refusalOf, inRange, validPath}
-use Rattle.path.proofs.Checks.{both, passed, check-fails, check-passes}
+use Rattle.path.proofs.Checks.{both, passed, refusal-is}
 use Rattle.path.proofs.Order.{within, valid-parts, last-in-range, ordered-front}
 use Rattle.select.specs.Penalty.{validPenalty, maxNumerator, maxDenominator, cost}
+use Rattle.select.specs.declared.Selected.{Selected}
 use Rattle.select.specs.Select.{selectedFrom, selected, selectChecks, selectOf, selection, unselected}
 
 -- a penalty in range
@@ -71,6 +71,10 @@ module _ (s l : List ℕ) (p q : ℕ) where
       by-test false h = (omega arith, omega arith)
 
 module _ (s l : List ℕ) (n p q : ℕ) where
+  pub select-refusal : selectOf s l n p q .refusal ≡ refusalOf (selectChecks s l n p q)
+  unfolding selectOf
+  select-refusal = refusal-is (λ (r : Selected). r .refusal) _ _ (refusalOf (selectChecks s l n p q)) refl refl
+
   pub select-refused : (c : ℕ) → c ≡ refusalOf (selectChecks s l n p q) → (c ≡ 0 → ⊥) → unselected c ≡ selectOf s l n p q
   unfolding selectOf
   select-refused c e h = rw (← e, ne-eqb c 0 h)

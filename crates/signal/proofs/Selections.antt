@@ -14,7 +14,7 @@ use borrow.Author.Tests.{le-leb}
 use Rattle.path.specs.Model.{Model, modelAt, pathOf, sizesOf, lossesOf}
 use Rattle.path.specs.Refusal.{refusalOf, ordered, validPath}
 use Rattle.path.specs.Buffer.{fronted}
-use Rattle.path.proofs.Paths.{length-path, length-sizes, length-losses}
+use Rattle.path.proofs.Paths.{length-path, length-sizes, length-losses, places-agree}
 use Rattle.path.proofs.Order.{valid-parts}
 use Rattle.path.proofs.Buffers.{path-front}
 use Rattle.select.specs.Penalty.{validPenalty, cost}
@@ -28,21 +28,12 @@ use Rattle.signal.specs.Signal.{modelOf, signalPath, segmentsAt, segment
 use Rattle.signal.specs.Steps.{SegmentFrom, SegmentedAt}
 use Rattle.signal.proofs.Paths.{Sized, path-sized, path-some}
 
--- buffers that hold the same path have the same model at each of its places
-pub same-places : (s l s' l' : List ℕ) (n : ℕ) → pathOf s l n ≡ pathOf s' l' n → (i : ℕ) → i < n → modelAt s l i ≡ modelAt s' l' i
-unfolding pathOf
-same-places s l s' l' zero e i h = absurd (not-suc-le-zero h)
-same-places s l s' l' (suc n) e i h =
-    let head : modelAt s l n ≡ modelAt s' l' n = cc in
-    let rest : pathOf s l n ≡ pathOf s' l' n = cc in
-    ⊎-elim (λ (q : i ≡ n). rw q head) (λ (q : i < n). same-places s l s' l' n rest i q) (eq-or-lt-of-le {n = i} {m = n} (omega arith))
-
 walks-agree : (s l s' l' : List ℕ) (n p q : ℕ) → pathOf s l n ≡ pathOf s' l' n → (m i : ℕ) → i + m < n → selectedFrom s l p q i m ≡ selectedFrom s' l' p q i m
 unfolding selectedFrom
 walks-agree s l s' l' n p q e zero i h = refl
 walks-agree s l s' l' n p q e (suc m) i h =
-    let here = same-places s l s' l' n e i (omega arith) in
-    let next = same-places s l s' l' n e (suc i) (omega arith) in
+    let here = places-agree s' l' s l n e i (omega arith) in
+    let next = places-agree s' l' s l n e (suc i) (omega arith) in
     let later = walks-agree s l s' l' n p q e m (suc i) (omega arith) in
     ap (λ (x : Model). cond (ltb (cost p q (modelAt s l (suc i))) (cost p q x)) (selectedFrom s l p q (suc i) m) i) here
     ∙ ap (λ (x : Model). cond (ltb (cost p q x) (cost p q (modelAt s' l' i))) (selectedFrom s l p q (suc i) m) i) next
@@ -54,7 +45,7 @@ select-agrees s l s' l' n p q e a b =
     let i = selected s l n p q in
     let w = selected-within s l p q (n - 1) 0 in
     let same : i ≡ selected s' l' n p q = walks-agree s l s' l' n p q e (n - 1) 0 (omega (arith, a .some)) in
-    let place = same-places s l s' l' n e i (omega (arith, a .some)) in
+    let place = places-agree s' l' s l n e i (omega (arith, a .some)) in
     let answer : selection s l i ≡ selection s' l' i = ap (λ (m : Model). record { refusal = 0; index = i; size = m .size; loss = m .loss }) place in
     sym (select-done s l n p q (accepted s l n p q a) i refl) ∙ answer ∙ select-done s' l' n p q (accepted s' l' n p q b) i same
 
