@@ -10,4 +10,3 @@ pub mod Appends
 pub mod Builds
 pub mod Histories
 pub mod Updates
-pub mod Figures

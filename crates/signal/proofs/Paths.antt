@@ -19,6 +19,7 @@ use Rattle.path.specs.Buffer.{laid, Held}
 use Rattle.path.proofs.Paths.{length-sizes, length-losses}
 use Rattle.path.proofs.Buffers.{path-laid, length-laid}
 use Rattle.path.proofs.Order.{Passes}
+use Rattle.path.proofs.Updates.{kept-few, extended-ordered}
 use Rattle.path.proofs.Held.{held-none, held-skip, held-append, held-refused, held-length, sizes-laid, losses-laid}
 use Rattle.least.specs.Segmentation.{least}
 use Rattle.signal.specs.Signal.{sizeCount, modelOf, signalPath}
@@ -62,6 +63,16 @@ path-some xs (suc k) = by-test (lossBelow (signalPath xs (suc k)) (modelOf xs (s
     by-test true h = omega arith
     by-test false h = h
 
+-- a path has at most one entry for each size
+pub path-few : (xs : List ℤ) (k : ℕ) → length (signalPath xs k) ≤ k
+unfolding signalPath
+path-few xs zero = omega arith
+path-few xs (suc k) = by-test (lossBelow (signalPath xs k) (modelOf xs k)) (path-few xs k)
+  where
+    by-test : (b : Bool) → length (signalPath xs k) ≤ k → length (cond b (extended (signalPath xs k) (modelOf xs k)) (signalPath xs k)) ≤ suc k
+    by-test true h = omega (arith, kept-few (signalPath xs k) (modelOf xs k))
+    by-test false h = omega arith
+
 size-above : (xs : List ℤ) (k : ℕ) (st : List Model) → Sized xs k st → sizeAbove st (modelOf xs k) ≡ true
 unfolding sizeAbove
 size-above xs k [] h = refl
@@ -73,6 +84,18 @@ size-above xs k (e ∷ r) h =
 model-in-range : (xs : List ℤ) (k : ℕ) → k < 32 → least xs k (length xs) ≤ maxLoss → inRange (modelOf xs k) ≡ true
 model-in-range xs k few low =
     rw (le-leb 1 (suc k) (omega arith), le-leb (suc k) maxSize (omega arith), le-leb (least xs k (length xs)) maxLoss low)
+
+-- the path of sizes whose losses are in range is ordered
+pub path-ordered : (xs : List ℤ) (k : ℕ) → k ≤ 32 → ((m : ℕ) → m < k → least xs m (length xs) ≤ maxLoss) → ordered (signalPath xs k) ≡ true
+unfolding signalPath ordered
+path-ordered xs zero few low = refl
+path-ordered xs (suc k) few low =
+    by-test (lossBelow (signalPath xs k) (modelOf xs k)) refl (path-ordered xs k (omega arith) (λ m h. low m (omega arith)))
+  where
+    by-test : (b : Bool) → lossBelow (signalPath xs k) (modelOf xs k) ≡ b → ordered (signalPath xs k) ≡ true → ordered (cond b (extended (signalPath xs k) (modelOf xs k)) (signalPath xs k)) ≡ true
+    by-test true e h =
+        extended-ordered (signalPath xs k) (modelOf xs k) h (record { range = model-in-range xs k (omega arith) (low k (omega arith)); size = size-above xs k (signalPath xs k) (path-sized xs k); loss = e })
+    by-test false e h = h
 
 -- what one more size leaves of the path
 path-taken : (xs : List ℤ) (k : ℕ) → lossBelow (signalPath xs k) (modelOf xs k) ≡ true → extended (signalPath xs k) (modelOf xs k) ≡ signalPath xs (k + 1)

@@ -10,12 +10,11 @@ use native.Mathlib.Omega.{arith}
 use lib.Dec.{ltb}
 use lib.IntN.{ℤ}
 use lib.ListN.{length, getD, take, drop}
-use borrow.Author.Tests.{le-leb}
 use Rattle.path.specs.Model.{Model, modelAt, pathOf, sizesOf, lossesOf}
 use Rattle.path.specs.Refusal.{refusalOf, ordered, validPath}
 use Rattle.path.specs.Buffer.{fronted}
 use Rattle.path.proofs.Paths.{length-path, length-sizes, length-losses, places-agree}
-use Rattle.path.proofs.Order.{valid-parts}
+use Rattle.path.proofs.Order.{valid-parts, valid-whole}
 use Rattle.path.proofs.Buffers.{path-front}
 use Rattle.select.specs.Penalty.{validPenalty, cost}
 use Rattle.select.specs.Select.{selectedFrom, selected, selectChecks, selectOf, selection}
@@ -50,7 +49,7 @@ select-agrees s l s' l' n p q e a b =
     sym (select-done s l n p q (accepted s l n p q a) i refl) ∙ answer ∙ select-done s' l' n p q (accepted s' l' n p q b) i same
 
 -- the path by itself, as two lists
-path-alone : (st : List Model) → pathOf (sizesOf st) (lossesOf st) (length st) ≡ st
+pub path-alone : (st : List Model) → pathOf (sizesOf st) (lossesOf st) (length st) ≡ st
 path-alone st =
     subst (λ (l : List ℕ). pathOf (sizesOf st) l (length st) ≡ st) (append-nil (lossesOf st))
     (subst (λ (s : List ℕ). pathOf s (lossesOf st ++ []) (length st) ≡ st) (append-nil (sizesOf st)) (path-front st [] []))
@@ -69,39 +68,49 @@ pub record Entry (xs : List ℤ) (count p q : ℕ) (found : Selected) : Type 0 w
   pub size : found .size ≡ suc last
   pub loss : found .loss ≡ least xs last (length xs)
 
-module _ (xs : List ℤ) (count : ℕ) (s l : List ℕ) (n p q : ℕ) (w starts : List ℕ) (levels : List ℤ) (ok : SegmentFrom xs count s l n p q w starts levels) where
+-- buffers that hold the path of sizes 1 to count, and a penalty in its range
+pub record PathIn (xs : List ℤ) (count : ℕ) (s l : List ℕ) (n p q : ℕ) : Type 0 where
+  pub one : 0 < count
+  pub is : pathOf s l n ≡ signalPath xs count
+  pub valid : validPath s l n ≡ true
+  pub penalty : validPenalty p q ≡ true
+
+module _ (xs : List ℤ) (count : ℕ) (s l : List ℕ) (n p q : ℕ) (ok : PathIn xs count s l n p q) where
   abbrev path : List Model
   path = signalPath xs count
 
   entries : n ≡ length path
-  entries = sym (length-path s l n) ∙ ap length (ok .path)
+  entries = sym (length-path s l n) ∙ ap length (ok .is)
 
   some : 1 ≤ n
   some =
       let e : count ≡ suc (count - 1) = omega (arith, ok .one) in
       omega (arith, entries, ap (λ (k : ℕ). length (signalPath xs k)) e, path-some xs (count - 1))
 
-  in-buffers : Selectable s l n p q
+  pub in-buffers : Selectable s l n p q
   in-buffers = record { valid = ok .valid; some = some; penalty = ok .penalty }
 
   alone : Selectable (sizesOf path) (lossesOf path) n p q
-  unfolding validPath
   alone =
       let v = valid-parts s l n (ok .valid) in
-      let order : ordered (pathOf (sizesOf path) (lossesOf path) n) ≡ true = ap (λ (k : ℕ). ordered (pathOf (sizesOf path) (lossesOf path) k)) entries ∙ ap ordered (path-alone path ∙ sym (ok .path)) ∙ v .order in
       record {
-        valid = rw (le-leb n (length (sizesOf path)) (omega (arith, length-sizes path, entries)), le-leb n (length (lossesOf path)) (omega (arith, length-losses path, entries)), le-leb n 4096 (v .few)) order;
+        valid = valid-whole (sizesOf path) (lossesOf path) n record {
+          in-sizes = omega (arith, length-sizes path, entries);
+          in-losses = omega (arith, length-losses path, entries);
+          few = v .few;
+          order = ap (λ (k : ℕ). ordered (pathOf (sizesOf path) (lossesOf path) k)) entries ∙ ap ordered (path-alone path ∙ sym (ok .is)) ∙ v .order;
+        };
         some = some;
         penalty = ok .penalty;
       }
 
   pub entry : (found : Selected) → found ≡ selectOf s l n p q → Entry xs count p q found
   entry found e =
-      let same : pathOf s l n ≡ pathOf (sizesOf path) (lossesOf path) n = ok .path ∙ sym (path-alone path) ∙ ap (pathOf (sizesOf path) (lossesOf path)) (sym entries) in
+      let same : pathOf s l n ≡ pathOf (sizesOf path) (lossesOf path) n = ok .is ∙ sym (path-alone path) ∙ ap (pathOf (sizesOf path) (lossesOf path)) (sym entries) in
       let i = selected s l n p q in
       let within = selected-within s l p q (n - 1) 0 in
       let answer : found ≡ selection s l i = e ∙ sym (select-done s l n p q (accepted s l n p q in-buffers) i refl) in
-      let m = sized-at xs count s l n (rw (ok .path) (path-sized xs count)) i (omega (arith, some)) in
+      let m = sized-at xs count s l n (rw (ok .is) (path-sized xs count)) i (omega (arith, some)) in
       record {
         size-is = ap (λ (r : Selected). r .size) (e ∙ select-agrees s l (sizesOf path) (lossesOf path) n p q same in-buffers alone) ∙ ap (λ (k : ℕ). selectOf (sizesOf path) (lossesOf path) k p q .size) entries;
         last = m .0;
@@ -109,6 +118,12 @@ module _ (xs : List ℤ) (count : ℕ) (s l : List ℕ) (n p q : ℕ) (w starts 
         size = ap (λ (r : Selected). r .size) answer ∙ ap (λ (x : Model). x .size) (m .2);
         loss = ap (λ (r : Selected). r .loss) answer ∙ ap (λ (x : Model). x .loss) (m .2);
       }
+
+-- what the segmentation at a penalty is made from
+module _ (xs : List ℤ) (count : ℕ) (s l : List ℕ) (n p q : ℕ) (w starts : List ℕ) (levels : List ℤ) (ok : SegmentFrom xs count s l n p q w starts levels) where
+  pub entry-from : (found : Selected) → found ≡ selectOf s l n p q → Entry xs count p q found
+  entry-from found e =
+      entry xs count s l n p q (record { one = ok .one; is = ok .path; valid = ok .valid; penalty = ok .penalty }) found e
 
   module _ (found : Selected) (h : Entry xs count p q found) where
     pub may-trace : TraceFrom xs w starts (found .size)

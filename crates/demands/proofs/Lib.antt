@@ -1,0 +1,4 @@
+pub mod Tried
+pub mod Records
+pub mod Demands
+pub mod Figures

@@ -1,0 +1,221 @@
+-- The claims on the record calls. The size at a penalty is the smallest of the cheapest of all sizes, by the theory of paths; the
+-- loss of a size is the least of all its segmentations, by the theory of least losses; together no segmentation is cheaper.
+use mathlib.Core.Path.{_≡_, refl, ap, sym, subst, _∙_}
+use mathlib.Core.Bool.{true}
+use mathlib.Core.List.{List, [], _∷_, _++_}
+use Prim.Native.Nat.{ℕ, zero, suc, _+_, _*_, _-_, _≤_, _<_, min}
+use native.Mathlib.Nat.{mul-le-mul-left, not-suc-le-zero}
+use native.Mathlib.Omega.{arith}
+use lib.IntN.{ℤ, pos, negsuc}
+use lib.Signed.{mag, _≤ℤ_}
+use lib.ListN.{length, getD, take, drop}
+use lib.Seq.{take-at}
+use borrow.Author.Tests.{eq-eqb}
+use Rattle.path.specs.Model.{Model, modelAt, pathOf, sizesOf, lossesOf}
+use Rattle.path.specs.Refusal.{refusalOf, ordered, maxLoss}
+use Rattle.path.specs.Buffer.{laid}
+use Rattle.path.proofs.Paths.{length-sizes, length-losses, length-path}
+use Rattle.path.proofs.Order.{valid-whole}
+use Rattle.path.proofs.Checks.{refusal-is}
+use Rattle.path.proofs.Buffers.{path-laid}
+use Rattle.select.specs.Penalty.{cost}
+use Rattle.select.specs.Select.{selected, selectOf, selection}
+use Rattle.select.proofs.Walks.{accepted, select-done}
+use Rattle.hull.specs.Claims.{In, PathOfWinners, SmallestCheapest}
+use Rattle.hull.proofs.Winners.{winners-with-skipped}
+use Rattle.hull.proofs.Selections.{selected-with-skipped}
+use Rattle.hull.proofs.Orders.{in-order}
+use Rattle.segment.proofs.Integers.{le-PN}
+use Rattle.segment.proofs.Bounds as bounds
+use Rattle.least.specs.Segmentation.{Piece, Segmentation, lossOf, startsOf, levelsOf, least, chosen}
+use Rattle.least.proofs.LeastLosses.{least-low}
+use Rattle.least.proofs.Optimality.{least-of-all, least-reached, earliest-starts, segmentation-long}
+use Rattle.least.proofs.Chosen.{levels-are-own, starts-rise, starts-count, levels-count, chosen-loss}
+use Rattle.signal.specs.Signal.{sizeCount, modelOf, modelsUpTo, signalPath, segmentsAt, segmentation}
+use Rattle.signal.specs.Outcome.{SplitOutcome, PathOutcome, roomsOf, pathChecks, splitChecks, splitAt, signalPathOf, splitOf}
+use Rattle.signal.proofs.Inputs.{Splittable, splittable}
+use Rattle.signal.proofs.Paths.{path-few, path-ordered}
+use Rattle.signal.proofs.Selections.{PathIn, Entry, entry, in-buffers, path-alone}
+use Rattle.demands.specs.Records.{Samples, GivesCheapest, SplitClaim, RecordPathClaim, SplitPathClaim, RecordOrderClaim}
+use Rattle.demands.proofs.Tried.{appended, path-sound, tried-or-skipped, size-listed}
+
+-- 16-bit samples in the words of the theory of segments
+sixteen : (x : ℤ) → negsuc 32767 ≤ℤ x → x ≤ℤ pos 32767 → mag x < 32768
+sixteen (pos n) h g = omega (arith, le-PN (pos n) (pos 32767) g)
+sixteen (negsuc n) h g = omega (arith, le-PN (negsuc 32767) (negsuc n) h)
+
+small : (xs : List ℤ) → Samples xs → bounds.Samples xs
+small xs h i l = sixteen (getD xs i (pos 0)) (h i l .0) (h i l .1)
+
+-- the path of all sizes that occur lists the winners among them
+pub path-of-winners : (xs : List ℤ) (k : ℕ) → PathOfWinners (signalPath xs k) (modelsUpTo xs k)
+path-of-winners xs k = winners-with-skipped (signalPath xs k) (appended xs k) (modelsUpTo xs k) (path-sound xs k) (tried-or-skipped xs k)
+
+-- the size and the loss that the path gives at a penalty
+module _ (xs : List ℤ) (count p q : ℕ) (ok : PathIn xs count (sizesOf (signalPath xs count)) (lossesOf (signalPath xs count)) (length (signalPath xs count)) p q) (order : ordered (signalPath xs count) ≡ true) where
+  abbrev path : List Model
+  path = signalPath xs count
+
+  abbrev size : ℕ
+  size = segmentsAt path p q
+
+  pub found : Entry xs count p q (selectOf (sizesOf path) (lossesOf path) (length path) p q)
+  found = entry xs count (sizesOf path) (lossesOf path) (length path) p q ok (selectOf (sizesOf path) (lossesOf path) (length path) p q) refl
+
+  -- it is the smallest of the cheapest of all sizes
+  pub smallest-cheapest : SmallestCheapest p q (modelOf xs (found .last)) (modelsUpTo xs count)
+  smallest-cheapest =
+      let s = sizesOf path in
+      let l = lossesOf path in
+      let n = length path in
+      let ready = in-buffers xs count s l n p q ok in
+      let i = selected s l n p q in
+      let answer = select-done s l n p q (accepted s l n p q ready) i refl in
+      let best : SmallestCheapest p q (modelAt s l i) (modelsUpTo xs count) =
+      selected-with-skipped s l n (appended xs count) (rw (path-alone path) (path-sound xs count)) (rw (path-alone path) order) (ready .some) p q (modelsUpTo xs count) (tried-or-skipped xs count) in
+      let same : modelAt s l i ≡ modelOf xs (found .last) =
+      rw (ap (λ r. r .size) answer ∙ found .size, ap (λ r. r .loss) answer ∙ found .loss) in
+      subst (λ (m : Model). SmallestCheapest p q m (modelsUpTo xs count)) same best
+
+-- an accepted split, taken apart
+module _ (xs : List ℤ) (limit p q : ℕ) (starts : List ℕ) (levels : List ℤ) (sizes losses scratch : List ℕ) where
+  abbrev result : SplitOutcome
+  result = splitOf xs limit p q starts levels sizes losses scratch
+
+  abbrev count : ℕ
+  count = sizeCount xs limit
+
+  pub split-refusal : result .refusal ≡ refusalOf (splitChecks (length xs) limit p q (length starts) (length levels) (roomsOf sizes losses scratch))
+  unfolding splitOf
+  split-refusal = refusal-is (λ (o : SplitOutcome). o .refusal) _ _ (refusalOf (splitChecks (length xs) limit p q (length starts) (length levels) (roomsOf sizes losses scratch))) refl refl
+
+  module _ (h : result .refusal ≡ 0) where
+    none-refused : refusalOf (splitChecks (length xs) limit p q (length starts) (length levels) (roomsOf sizes losses scratch)) ≡ 0
+    none-refused = sym split-refusal ∙ h
+
+    pub split-is : result ≡ splitAt xs (signalPath xs count) count p q starts levels sizes losses scratch
+    unfolding splitOf
+    split-is = rw none-refused
+
+    pub asked : Splittable xs limit p q (length starts) (length levels) sizes losses scratch
+    asked = splittable xs limit p q (length starts) (length levels) sizes losses scratch none-refused
+
+    module _ (bits : Samples xs) where
+      low : (m : ℕ) → m < count → least xs m (length xs) ≤ maxLoss
+      low m g =
+          let ok = asked .solvable in
+          omega (arith, least-low xs (small xs bits) m (length xs) (omega arith) (omega arith), ok .short)
+
+      order : ordered (signalPath xs count) ≡ true
+      order = path-ordered xs count (omega (arith, asked .solvable .few)) low
+
+      path-in : PathIn xs count (sizesOf (signalPath xs count)) (lossesOf (signalPath xs count)) (length (signalPath xs count)) p q
+      path-in =
+          record {
+            one = omega (arith, asked .solvable .one, asked .solvable .some);
+            is = path-alone (signalPath xs count);
+            valid = valid-whole (sizesOf (signalPath xs count)) (lossesOf (signalPath xs count)) (length (signalPath xs count)) record {
+              in-sizes = omega (arith, length-sizes (signalPath xs count));
+              in-losses = omega (arith, length-losses (signalPath xs count));
+              few = omega (arith, path-few xs count, asked .solvable .few);
+              order = ap ordered (path-alone (signalPath xs count)) ∙ order;
+            };
+            penalty = asked .penalty;
+          }
+
+      -- the size given, and that it is one more than a number of a size that occurs
+      abbrev given : ℕ
+      given = segmentsAt (signalPath xs count) p q
+
+      abbrev here : Entry xs count p q (selectOf (sizesOf (signalPath xs count)) (lossesOf (signalPath xs count)) (length (signalPath xs count)) p q)
+      here = found xs count p q path-in order
+
+      one-more : suc (given - 1) ≡ given
+      one-more = omega (arith, here .size)
+
+      enough : suc (given - 1) ≤ length xs
+      enough = omega (arith, here .size, here .few)
+
+      loss-given : lossOf (segmentation xs given) ≡ least xs (here .last) (length xs)
+      loss-given =
+          let e : given - 1 ≡ here .last = omega (arith, here .size) in
+          chosen-loss xs (given - 1) (length xs) ∙ ap (λ (m : ℕ). least xs m (length xs)) e
+
+      best : SmallestCheapest p q (modelOf xs (here .last)) (modelsUpTo xs count)
+      best = smallest-cheapest xs count p q path-in order
+
+      -- another segmentation costs at least as much as the least loss of its size
+      module _ (k : ℕ) (g : List Piece) (some : 1 ≤ k) (few : k ≤ limit) (lawful : Segmentation xs k g) where
+        abbrev other : Model
+        other = modelOf xs (k - 1)
+
+        size-of : suc (k - 1) ≡ k
+        size-of = omega arith
+
+        its-loss : least xs (k - 1) (length xs) ≤ lossOf g
+        its-loss = least-of-all xs (k - 1) g (subst (λ (m : ℕ). Segmentation xs m g) (sym size-of) lawful)
+
+        listed : In other (modelsUpTo xs count)
+        listed = size-listed xs count (k - 1) (omega (arith, segmentation-long lawful))
+
+        costs : cost p q other ≤ q * lossOf g + p * k
+        costs = omega (arith, mul-le-mul-left q its-loss, ap (λ (m : ℕ). p * m) size-of)
+
+        no-cheaper : q * lossOf (segmentation xs given) + p * given ≤ q * lossOf g + p * k
+        no-cheaper =
+            omega (arith, best .cheapest other listed, costs, ap (λ (m : ℕ). q * m) loss-given, ap (λ (m : ℕ). p * m) (here .size))
+
+        no-fewer : q * lossOf g + p * k ≡ q * lossOf (segmentation xs given) + p * given → given ≤ k
+        no-fewer e =
+            let same : cost p q other ≡ cost p q (modelOf xs (here .last)) =
+            omega (arith, best .cheapest other listed, costs, ap (λ (m : ℕ). q * m) loss-given, ap (λ (m : ℕ). p * m) (here .size)) in
+            omega (arith, best .smallest other listed same, here .size)
+
+      pub gives : GivesCheapest xs limit p q (splitAt xs (signalPath xs count) count p q starts levels sizes losses scratch) (segmentation xs given)
+      gives =
+          let reached = least-reached xs (given - 1) enough in
+          let starts-long : length (startsOf (segmentation xs given)) ≡ given = starts-count xs (given - 1) (length xs) ∙ one-more in
+          let levels-long : length (levelsOf (segmentation xs given)) ≡ given = levels-count xs (given - 1) (length xs) ∙ one-more in
+          record {
+            lawful = subst (λ (m : ℕ). Segmentation xs m (segmentation xs given)) one-more (reached .0);
+            some = omega (arith, here .size);
+            few = omega (arith, here .size, here .few);
+            starts-spell = take-at (startsOf (segmentation xs given)) (drop (length (startsOf (segmentation xs given))) starts) given starts-long;
+            levels-spell = take-at (levelsOf (segmentation xs given)) (drop (length (levelsOf (segmentation xs given))) levels) given levels-long;
+            starts-rise = starts-rise xs (given - 1) (length xs) enough (omega arith);
+            levels-own = levels-are-own xs (given - 1) (length xs);
+            loss-own = refl;
+            cheapest = no-cheaper;
+            fewest = no-fewer;
+            earliest = λ g lawful e. earliest-starts xs (given - 1) g (subst (λ (m : ℕ). Segmentation xs m g) (sym one-more) lawful) (e ∙ reached .1);
+          }
+
+pub split-claim : SplitClaim
+split-claim xs limit p q starts levels sizes losses scratch bits h =
+    let given = segmentation xs (segmentsAt (signalPath xs (sizeCount xs limit)) p q) in
+    (given, rw (split-is xs limit p q starts levels sizes losses scratch h) (gives xs limit p q starts levels sizes losses scratch h bits))
+
+pub split-path-claim : SplitPathClaim
+split-path-claim xs limit p q starts levels sizes losses scratch h =
+    rw (split-is xs limit p q starts levels sizes losses scratch h, path-laid (signalPath xs (sizeCount xs limit)) (sizeCount xs limit) sizes losses) (path-of-winners xs (sizeCount xs limit))
+
+-- a path call by its checks
+module _ (xs : List ℤ) (limit : ℕ) (sizes losses scratch : List ℕ) where
+  path-refusal : signalPathOf xs limit sizes losses scratch .refusal ≡ refusalOf (pathChecks (length xs) limit (roomsOf sizes losses scratch))
+  unfolding signalPathOf
+  path-refusal = refusal-is (λ (o : PathOutcome). o .refusal) _ _ (refusalOf (pathChecks (length xs) limit (roomsOf sizes losses scratch))) refl refl
+
+  path-left : signalPathOf xs limit sizes losses scratch .refusal ≡ 0
+      → pathOf (signalPathOf xs limit sizes losses scratch .sizes) (signalPathOf xs limit sizes losses scratch .losses) (signalPathOf xs limit sizes losses scratch .entries) ≡ signalPath xs (sizeCount xs limit)
+  unfolding signalPathOf
+  path-left h = rw (sym path-refusal ∙ h) (path-laid (signalPath xs (sizeCount xs limit)) (sizeCount xs limit) sizes losses)
+
+pub record-path-claim : RecordPathClaim
+record-path-claim xs limit sizes losses scratch h = rw (path-left xs limit sizes losses scratch h) (path-of-winners xs (sizeCount xs limit))
+
+pub record-order-claim : RecordOrderClaim
+record-order-claim =
+    record {
+      signal-path = λ xs limit sizes losses scratch. in-order (pathChecks (length xs) limit (roomsOf sizes losses scratch)) refl (signalPathOf xs limit sizes losses scratch .refusal) (path-refusal xs limit sizes losses scratch);
+      split = λ xs limit p q starts levels sizes losses scratch. in-order (splitChecks (length xs) limit p q (length starts) (length levels) (roomsOf sizes losses scratch)) refl (splitOf xs limit p q starts levels sizes losses scratch .refusal) (split-refusal xs limit p q starts levels sizes losses scratch);
+    }
