@@ -1,17 +1,12 @@
 -- The earliest place at which a function is least: as a definition that can be run, and as what a reader expects of it.
-use mathlib.Core.Bool.{Bool, true, false}
+use mathlib.Core.Bool.{cond}
 use Prim.Native.Nat.{ℕ, zero, suc, _+_, _≤_, _<_}
 use lib.Dec.{ltb}
-
--- The first number where the test is true, else the second.
-abbrev pub pick : Bool → ℕ → ℕ → ℕ
-pick true a b = a
-pick false a b = b
 
 -- Of lo, .., lo + n, the earliest at which f is least.
 unfoldable pub firstOf : (ℕ → ℕ) → ℕ → ℕ → ℕ
 firstOf f lo zero = lo
-firstOf f lo (suc n) = pick (ltb (f (lo + suc n)) (f (firstOf f lo n))) (lo + suc n) (firstOf f lo n)
+firstOf f lo (suc n) = cond (ltb (f (lo + suc n)) (f (firstOf f lo n))) (lo + suc n) (firstOf f lo n)
 
 -- a is the earliest of lo, .., hi - 1 at which f is least.
 pub record Earliest (f : ℕ → ℕ) (lo hi a : ℕ) : Type 0 where

@@ -2,7 +2,7 @@
 use mathlib.Core.Path.{_≡_, refl, ap, _∙_}
 use mathlib.Core.Bool.{Bool, true, false, cond, _&&_}
 use mathlib.Core.List.{List}
-use Prim.Native.Nat.{ℕ, zero, suc, _+_, _*_, _-_, _≤_, _<_}
+use Prim.Native.Nat.{ℕ, zero, suc, _+_, _*_, _-_, _^_, _≤_, _<_}
 use native.Mathlib.Nat.{mul-le-mul, not-suc-le-zero}
 use native.Mathlib.Numerals.{add-one}
 use native.Mathlib.Omega.{arith}
@@ -28,12 +28,12 @@ priced p q h =
     let b = both (leb p maxNumerator) (leb 1 q) (a .0) in
     record { numerator = leb-true _ _ (b .0); positive = leb-true _ _ (b .1); denominator = leb-true _ _ (a .1) }
 
--- the two products of a cost are below 2^60
-pub products-small : (p q : ℕ) (m : Model) → validPenalty p q ≡ true → inRange m ≡ true → (q * m .loss ≤ 65535 * 17592186044416) × (p * m .size ≤ 17592186044416 * 65535)
-products-small p q m h g =
+-- a cost is below 2^61, and so are its two products
+pub cost-small : (p q : ℕ) (m : Model) → validPenalty p q ≡ true → inRange m ≡ true → cost p q m < 2 ^ 61
+cost-small p q m h g =
     let a = priced p q h in
     let b = within m g in
-    (mul-le-mul (a .denominator) (b .low), mul-le-mul (a .numerator) (b .small))
+    omega (arith, mul-le-mul (a .denominator) (b .low), mul-le-mul (a .numerator) (b .small))
 
 -- an entry of a valid path is in range
 pub valid-in-range : (s l : List ℕ) (n i : ℕ) → validPath s l n ≡ true → i < n → inRange (modelAt s l i) ≡ true
