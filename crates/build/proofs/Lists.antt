@@ -1,16 +1,16 @@
 -- Laws of the checks of a list of models: where model i is bad, where it passes, and what a list without a bad one tells.
 use mathlib.Core.Path.{_≡_, refl, ap, sym, _∙_, subst}
-use mathlib.Core.Bool.{Bool, true, false, _&&_}
+use mathlib.Core.Bool.{true, _&&_}
 use mathlib.Core.List.{List, [], _∷_, _++_}
-use Prim.Native.Nat.{ℕ, zero, suc, _+_, _-_, _≤_, _<_, max}
+use Prim.Native.Nat.{ℕ, zero, suc, _+_, _-_, _≤_, _<_}
 use native.Mathlib.Nat.{not-suc-le-zero}
 use native.Mathlib.Numerals.{add-one}
 use native.Mathlib.Omega.{arith}
 use lib.Dec.{ltb, leb}
-use lib.ListN.{length, getD}
-use borrow.Author.Tests.{lt-ltb, le-ltb, ltb-true, leb-true, le-leb, lt-leb}
+use lib.ListN.{length}
+use borrow.Author.Tests.{lt-ltb, le-ltb, ltb-true, leb-true}
 use Rattle.path.specs.Model.{Model, modelAt, pathOf}
-use Rattle.path.specs.Refusal.{Check, check, refusalOf, modelChecks, sizeAbove, lossBelow}
+use Rattle.path.specs.Refusal.{check, refusalOf, modelChecks, sizeAbove, lossBelow}
 use Rattle.path.proofs.Checks.{numbered, both, check-fails, check-passes, passed, fails-early, passes-on, both-pass}
 use Rattle.path.proofs.Order.{Passes, model-passes}
 use Rattle.build.specs.Build.{built, countOf, checksAt, listChecks, buildChecks}

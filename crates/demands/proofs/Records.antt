@@ -2,24 +2,22 @@
 -- loss of a size is the least of all its segmentations, by the theory of least losses; together no segmentation is cheaper.
 use mathlib.Core.Path.{_≡_, refl, ap, sym, subst, _∙_}
 use mathlib.Core.Bool.{true}
-use mathlib.Core.List.{List, [], _∷_, _++_}
-use Prim.Native.Nat.{ℕ, zero, suc, _+_, _*_, _-_, _≤_, _<_, min}
-use native.Mathlib.Nat.{mul-le-mul-left, not-suc-le-zero}
+use mathlib.Core.List.{List}
+use Prim.Native.Nat.{ℕ, suc, _+_, _*_, _-_, _≤_, _<_}
+use native.Mathlib.Nat.{mul-le-mul-left}
 use native.Mathlib.Omega.{arith}
 use lib.IntN.{ℤ, pos, negsuc}
 use lib.Signed.{mag, _≤ℤ_}
-use lib.ListN.{length, getD, take, drop}
+use lib.ListN.{length, getD, drop}
 use lib.Seq.{take-at}
-use borrow.Author.Tests.{eq-eqb}
 use Rattle.path.specs.Model.{Model, modelAt, pathOf, sizesOf, lossesOf}
 use Rattle.path.specs.Refusal.{refusalOf, ordered, maxLoss}
-use Rattle.path.specs.Buffer.{laid}
-use Rattle.path.proofs.Paths.{length-sizes, length-losses, length-path}
+use Rattle.path.proofs.Paths.{length-sizes, length-losses}
 use Rattle.path.proofs.Order.{valid-whole}
 use Rattle.path.proofs.Checks.{refusal-is}
 use Rattle.path.proofs.Buffers.{path-laid}
 use Rattle.select.specs.Penalty.{cost}
-use Rattle.select.specs.Select.{selected, selectOf, selection}
+use Rattle.select.specs.Select.{selected, selectOf}
 use Rattle.select.proofs.Walks.{accepted, select-done}
 use Rattle.hull.specs.Claims.{In, PathOfWinners, SmallestCheapest}
 use Rattle.hull.proofs.Winners.{winners-with-skipped}
@@ -27,7 +25,7 @@ use Rattle.hull.proofs.Selections.{selected-with-skipped}
 use Rattle.hull.proofs.Orders.{in-order}
 use Rattle.segment.proofs.Integers.{le-PN}
 use Rattle.segment.proofs.Bounds as bounds
-use Rattle.least.specs.Segmentation.{Piece, Segmentation, lossOf, startsOf, levelsOf, least, chosen}
+use Rattle.least.specs.Segmentation.{Piece, Segmentation, lossOf, startsOf, levelsOf, least}
 use Rattle.least.proofs.LeastLosses.{least-low}
 use Rattle.least.proofs.Optimality.{least-of-all, least-reached, earliest-starts, segmentation-long}
 use Rattle.least.proofs.Chosen.{levels-are-own, starts-rise, starts-count, levels-count, chosen-loss}

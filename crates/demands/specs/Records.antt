@@ -11,7 +11,7 @@ use Rattle.hull.specs.Claims.{PathOfWinners, Ordered}
 use Rattle.least.specs.Segmentation.{Piece, Segmentation, OwnLevels, NotLater, lossOf, startsOf, levelsOf}
 use Rattle.least.specs.Claims.{Rising}
 use Rattle.signal.specs.Signal.{sizeCount, modelsUpTo}
-use Rattle.signal.specs.Outcome.{SplitOutcome, PathOutcome, roomsOf, pathChecks, splitChecks, signalPathOf, splitOf}
+use Rattle.signal.specs.Outcome.{SplitOutcome, roomsOf, pathChecks, splitChecks, signalPathOf, splitOf}
 
 -- every sample is a signed 16-bit number, as the record calls take them
 abbrev pub Samples : List ℤ → Type 0

@@ -1,7 +1,7 @@
 -- Refusals. A call has a list of checks in the order of 01, each with the number that answers where it fails; the number of
 -- the first that fails is the call's refusal, and 0 says that none does. The checks here are those of models and paths.
 use mathlib.Core.Bool.{Bool, true, cond, _&&_}
-use mathlib.Core.List.{List, [], _∷_, _++_}
+use mathlib.Core.List.{List, [], _∷_}
 use Prim.Native.Nat.{ℕ}
 use lib.Dec.{ltb, leb}
 use lib.ListN.{length}

@@ -7,7 +7,7 @@ use native.Mathlib.Omega.{arith}
 use lib.Dec.{leb}
 use lib.IntN.{ℤ}
 use lib.ListN.{length}
-use borrow.Author.Tests.{leb-true, le-leb, lt-leb}
+use borrow.Author.Tests.{leb-true}
 use Rattle.path.specs.Refusal.{Check, check, refusalOf}
 use Rattle.path.proofs.Checks.{both, passed, both-pass, check-fails, check-passes, fails-early, passes-on, none-fail}
 use Rattle.select.specs.Penalty.{validPenalty}

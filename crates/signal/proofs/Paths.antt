@@ -1,12 +1,11 @@
 -- Laws of a signal's path: its entries are models of sizes that occur, so that each size may be tried after it; what a size that
 -- is tried leaves; and what the entry at a penalty is.
 use mathlib.Core.Path.{_≡_, refl, ap, sym, subst, _∙_}
-use mathlib.Core.Bool.{Bool, true, false, cond, _&&_}
-use mathlib.Core.List.{List, [], _∷_, _++_}
-use Prim.Native.Nat.{ℕ, zero, suc, _+_, _*_, _-_, _≤_, _<_}
+use mathlib.Core.Bool.{Bool, true, false, cond}
+use mathlib.Core.List.{List, [], _∷_}
+use Prim.Native.Nat.{ℕ, zero, suc, _+_, _-_, _≤_, _<_}
 use native.Mathlib.Numerals.{add-one}
 use native.Mathlib.Omega.{arith}
-use lib.Dec.{ltb, leb}
 use lib.IntN.{ℤ}
 use lib.ListN.{length, getD, replicate}
 use borrow.Rule.Slice.PartMut.{putMid}
@@ -18,7 +17,6 @@ use Rattle.path.specs.Append.{Outcome, appendOf}
 use Rattle.path.specs.Buffer.{laid, Held}
 use Rattle.path.proofs.Paths.{length-sizes, length-losses}
 use Rattle.path.proofs.Buffers.{path-laid, length-laid}
-use Rattle.path.proofs.Order.{Passes}
 use Rattle.path.proofs.Updates.{kept-few, extended-ordered}
 use Rattle.path.proofs.Held.{held-none, held-skip, held-append, held-refused, held-length, sizes-laid, losses-laid}
 use Rattle.least.specs.Segmentation.{least}

@@ -1,27 +1,27 @@
 -- The entry of a signal's path at a penalty: it is the same from any buffers that hold the path, and the model of a size that
 -- occurs, so that the table has its segmentation.
 use mathlib.Core.Path.{_≡_, refl, ap, sym, subst, _∙_}
-use mathlib.Core.Bool.{Bool, true, false, cond, _&&_}
+use mathlib.Core.Bool.{true, cond}
 use mathlib.Core.Logic.{⊎-elim}
-use mathlib.Core.List.{List, [], _∷_, _++_, append-nil}
+use mathlib.Core.List.{List, [], _++_, append-nil}
 use Prim.Native.Nat.{ℕ, zero, suc, _+_, _-_, _≤_, _<_}
 use native.Mathlib.Nat.{not-suc-le-zero, eq-or-lt-of-le}
 use native.Mathlib.Omega.{arith}
 use lib.Dec.{ltb}
 use lib.IntN.{ℤ}
-use lib.ListN.{length, getD, take, drop}
+use lib.ListN.{length, drop}
 use Rattle.path.specs.Model.{Model, modelAt, pathOf, sizesOf, lossesOf}
-use Rattle.path.specs.Refusal.{refusalOf, ordered, validPath}
+use Rattle.path.specs.Refusal.{ordered, validPath}
 use Rattle.path.specs.Buffer.{fronted}
 use Rattle.path.proofs.Paths.{length-path, length-sizes, length-losses, places-agree}
 use Rattle.path.proofs.Order.{valid-parts, valid-whole}
 use Rattle.path.proofs.Buffers.{path-front}
 use Rattle.select.specs.Penalty.{validPenalty, cost}
-use Rattle.select.specs.Select.{selectedFrom, selected, selectChecks, selectOf, selection}
+use Rattle.select.specs.Select.{selectedFrom, selected, selectOf, selection}
 use Rattle.select.specs.declared.Selected.{Selected}
 use Rattle.select.proofs.Walks.{Selectable, accepted, selected-within, select-done}
-use Rattle.least.specs.Segmentation.{least, chosen, startsOf, levelsOf, lossOf}
-use Rattle.least.specs.Table.{scratchLen, TraceFrom, LevelsFrom}
+use Rattle.least.specs.Segmentation.{least, startsOf, levelsOf, lossOf}
+use Rattle.least.specs.Table.{TraceFrom, LevelsFrom}
 use Rattle.least.proofs.Chosen.{starts-count, levels-count, starts-taken, chosen-loss}
 use Rattle.signal.specs.Signal.{modelOf, signalPath, segmentsAt, segmentation}
 use Rattle.signal.specs.Steps.{SegmentFrom, SegmentedAt}

@@ -5,7 +5,7 @@ use mathlib.Core.List.{List}
 use Prim.Native.Nat.{ℕ, _+_, _≤_, _<_}
 use lib.IntN.{ℤ}
 use lib.ListN.{length, getD}
-use Rattle.path.specs.Model.{Model, pathOf, sizesOf, lossesOf}
+use Rattle.path.specs.Model.{pathOf, sizesOf, lossesOf}
 use Rattle.path.specs.Refusal.{validPath, maxLoss}
 use Rattle.path.specs.Buffer.{laid, fronted}
 use Rattle.select.specs.Penalty.{validPenalty}

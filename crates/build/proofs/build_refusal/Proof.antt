@@ -1,5 +1,5 @@
 -- `build::build_refusal` meets its contract: each number is that of the first check that fails.
-use mathlib.Core.Path.{_≡_, sym, _∙_}
+use mathlib.Core.Path.{sym, _∙_}
 use Rattle.build.proofs.Cases.{no-models, too-many, bad-list, no-sizes-room, no-losses-room, all-pass}
 use borrow.Author.Needs.{needs}
 use Rattle.build.proofs.build_refusal.Statement.{statement}

@@ -1,16 +1,12 @@
 -- `path::append` meets its contract: refused for its input, refused for want of room, or accepted, with both lists stored.
-use mathlib.Core.Path.{_≡_, ap, sym, _∙_}
-use mathlib.Core.Bool.{true, false}
-use Prim.Native.Nat.{ℕ, suc, _+_, _≤_, _<_}
+use mathlib.Core.Path.{ap, sym, _∙_}
 use native.Mathlib.Omega.{arith}
 use borrow.Author.Tests.{not-true, not-false}
-use lib.ListN.{length}
 use Rattle.path.specs.declared.Kept.{Kept}
 use Rattle.path.specs.Model.{model}
-use Rattle.path.specs.Refusal.{roomFor}
-use Rattle.path.specs.Append.{Outcome, outcome}
+use Rattle.path.specs.Append.{outcome}
 use Rattle.path.specs.declared.Appended.{Appended}
-use Rattle.path.proofs.Order.{acceptable, Room, room-parts}
+use Rattle.path.proofs.Order.{acceptable, room-parts}
 use Rattle.path.proofs.Cases.{input-refused, room-refused, accepted}
 use borrow.Author.Needs.{needs}
 use Rattle.path.proofs.append.Statement.{statement}

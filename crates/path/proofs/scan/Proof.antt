@@ -1,7 +1,7 @@
 -- `path::scan` meets its contract. The loop's invariant: the first i entries keep what the whole path keeps, and the tests
 -- made so far with those still to come are the path's.
 use mathlib.Core.Path.{_≡_, refl, ap, sym, _∙_}
-use Prim.Native.Nat.{ℕ, suc, _+_, _-_, _≤_}
+use Prim.Native.Nat.{suc, _+_, _-_, _≤_}
 use native.Mathlib.Omega.{arith}
 use lib.ListN.{length}
 use Rattle.path.specs.Model.{model, pathOf}

@@ -1,5 +1,5 @@
 -- `select::breakpoints` meets its contract: refused, no breakpoint, or those of the path written.
-use mathlib.Core.Path.{_≡_, sym, _∙_}
+use mathlib.Core.Path.{sym, _∙_}
 use Prim.Native.Nat.{_-_}
 use native.Mathlib.Omega.{arith}
 use Rattle.select.proofs.Listings.{breakpoints-refused, breakpoints-none, listable, breakpoints-done}

@@ -1,5 +1,5 @@
 -- `select::breakpoints_refusal` meets its contract: each number is that of the first check that fails.
-use mathlib.Core.Path.{_≡_, sym, _∙_}
+use mathlib.Core.Path.{sym, _∙_}
 use Prim.Native.Nat.{_-_}
 use native.Mathlib.Omega.{arith}
 use borrow.Author.Tests.{not-true, not-false}

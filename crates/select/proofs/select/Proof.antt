@@ -1,10 +1,10 @@
 -- `select::select` meets its contract: refused, or the entry at which the walk ends.
-use mathlib.Core.Path.{_≡_, sym, _∙_}
+use mathlib.Core.Path.{sym, _∙_}
 use Prim.Native.Nat.{_-_, _<_}
 use lib.ListN.{length}
 use native.Mathlib.Omega.{arith}
 use Rattle.path.proofs.Order.{valid-parts}
-use Rattle.select.proofs.Walks.{Selectable, selectable, selected-within, select-refused, select-done}
+use Rattle.select.proofs.Walks.{selectable, selected-within, select-refused, select-done}
 use borrow.Author.Needs.{needs}
 use Rattle.select.proofs.select.Statement.{statement}
 use Rattle.select.proofs.select.Tie as tie

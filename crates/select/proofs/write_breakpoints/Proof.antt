@@ -1,10 +1,9 @@
 -- `select::write_breakpoints` meets its contract. The loop's invariant: the buffers hold the breakpoints of the first i + 1
 -- entries. No difference is negative, since the path is ordered.
-use mathlib.Core.Path.{_≡_, subst, _∙_}
+use mathlib.Core.Path.{_≡_, subst}
 use Prim.Native.Nat.{ℕ, suc, _+_, _-_, _≤_}
 use native.Mathlib.Numerals.{add-one}
 use native.Mathlib.Omega.{arith}
-use lib.ListN.{length}
 use Rattle.path.specs.Model.{modelAt}
 use Rattle.path.proofs.Order.{Valid, valid-parts, Before, ordered-near}
 use Rattle.select.specs.Listing.{Written}

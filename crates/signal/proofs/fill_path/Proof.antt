@@ -1,9 +1,8 @@
 -- `signal::fill_path` meets its contract. The loop's invariant: the buffers hold the path of sizes 1 to i.
 use mathlib.Core.Path.{_≡_, subst}
 use mathlib.Core.Logic.{⊎-elim}
-use Prim.Native.Nat.{ℕ, _+_, _-_, _≤_}
+use Prim.Native.Nat.{ℕ, _-_, _≤_}
 use native.Mathlib.Omega.{arith}
-use lib.ListN.{length}
 use Rattle.path.specs.Buffer.{Held}
 use Rattle.path.specs.Append.{outcome}
 use Rattle.signal.specs.Signal.{signalPath}

@@ -1,5 +1,5 @@
 -- `signal::make_path` meets its contract: the table, then the path of its losses, then zeros after the path.
-use mathlib.Core.Path.{_≡_, ap, _∙_}
+use mathlib.Core.Path.{ap, _∙_}
 use Prim.Native.Nat.{ℕ, _-_}
 use native.Mathlib.Omega.{arith}
 use lib.ListN.{replicate}
