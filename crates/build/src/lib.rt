@@ -2,7 +2,7 @@
 // so that the whole is linear in the number of models.
 
 ghost use mathlib.Core.Path.{_≡_};
-ghost use Prim.Native.Nat.{ℕ, _≤_, max};
+ghost use Prim.Native.Nat.{max};
 ghost use lib.ListN.{length};
 ghost use Rattle.path.specs.Refusal.{refusalOf};
 ghost use Rattle.path.specs.Append.{outcome};

@@ -3,11 +3,10 @@
 
 ghost use mathlib.Core.Path.{_≡_};
 ghost use mathlib.Core.Bool.{_&&_};
-ghost use mathlib.Core.List.{_∷_, []};
-ghost use Prim.Native.Nat.{ℕ, min, _≤_};
+ghost use Prim.Native.Nat.{min};
 ghost use lib.Dec.{leb};
 ghost use lib.ListN.{length, replicate};
-ghost use Rattle.path.specs.Refusal.{check, refusalOf};
+ghost use Rattle.path.specs.Refusal.{refusalOf};
 ghost use Rattle.path.specs.Buffer.{Held};
 ghost use Rattle.signal.specs.Signal.{signalPath};
 ghost use Rattle.signal.specs.Outcome.{inputChecks, pathFits, pathChecks, splitChecks, pathOutcome, signalPathOf, splitOutcome, splitOf};
