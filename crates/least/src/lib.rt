@@ -24,7 +24,8 @@ struct LastSegment {
 }
 
 // The earliest best start, not before low, of a last segment that ends at to, where row has the losses of what stands before it.
-// A segment's loss only grows as it is extended to the left, so the search ends where that alone exceeds the best so far.
+// A segment's loss only grows as it is extended to the left, so the search ends where that alone exceeds the best so far. Where
+// low itself has no loss, as in a signal that does not change, nothing is better or earlier.
 fn pick_start(
     samples: &[i16],
     sums: &[u32],
@@ -36,6 +37,12 @@ fn pick_start(
     requires { ⌜ PickFrom (now samples) (now sums) (now squares) (now row) low to ⌝ }
     ensures { λ r. ⌜ Picked (now (samples .entry)) (now (row .entry)) low to (r .loss) (r .start) ⌝ }
 {
+    if row[low] + segment_loss(samples, sums, squares, low, to) == 0 {
+        return LastSegment {
+            loss: 0,
+            start: low,
+        };
+    }
     let mut i = to - 1;
     let mut start = i;
     let mut least = row[i] + segment_loss(samples, sums, squares, i, to);

@@ -1,6 +1,7 @@
--- `least::pick_start` meets its contract. The invariant: of the places scanned, from the end of the signal's part down to i, `start`
--- is the earliest with the least loss. Each turn takes or keeps; where a segment's own loss exceeds the least, so do the losses
--- from all places further left, since a segment's loss only grows to the left.
+-- `least::pick_start` meets its contract. Where the lowest place has no loss, it is the earliest of the best. The invariant: of the
+-- places scanned, from the end of the signal's part down to i, `start` is the earliest with the least loss. Each turn takes or
+-- keeps; where a segment's own loss exceeds the least, so do the losses from all places further left, since a segment's loss only
+-- grows to the left.
 use mathlib.Core.Path.{_≡_, ap, subst}
 use mathlib.Core.List.{List}
 use Prim.Native.Nat.{ℕ, _+_, _*_, _-_, _≤_, _<_}
@@ -45,6 +46,13 @@ module _ {xs : List ℤ} {row : List ℕ} {low to : ℕ} where
   -- What the scan has found when all places are done with.
   picked : {start loss : ℕ} → low < to → loss ≡ joined xs (rowOf row) to start → Earliest (joined xs (rowOf row) to) low to start → Picked xs row low to loss start
   picked {start} h e p = record { start-is = earliest-one (joined xs (rowOf row) to) low to start (lastStart xs (rowOf row) low to) p (lastStart-earliest xs (rowOf row) low to h); loss-is = e }
+
+  -- The lowest place has no loss: nothing is better or earlier.
+  none-lost : {v : ℕ} → low < to → v ≡ segmentLoss (slice low to xs) → getD row low 0 + v ≡ 0 → Picked xs row low to 0 low
+  unfolding joined
+  none-lost h e z =
+      let k : 0 ≡ joined xs (rowOf row) to low = omega arith in
+      picked h k (record { low = omega arith; high = h; minimal = λ t l u. omega arith; first = λ t l u. absurd (omega arith) })
 
   -- The scan has reached the lowest place.
   scan-end : {i start loss : ℕ} → Scan xs row low to i start loss → i ≤ low → Picked xs row low to loss start
@@ -94,6 +102,23 @@ Inv-loop samples sums squares row low to i₀ start₀ least₀ i start least = 
 abbrev μ-loop : tie.MeasureT-loop
 μ-loop samples sums squares row low to i₀ start₀ least₀ i start least = i
 
+mul-if1 : tie.Need-mul-if1 Inv-loop μ-loop
+mul-if1 c = omega arith
+
+shared-slice-read-if1 : tie.Need-shared-slice-read-if1 Inv-loop μ-loop
+shared-slice-read-if1 c = omega arith
+
+segment-loss-requires : tie.Need-segment-loss-requires Inv-loop μ-loop
+segment-loss-requires c κs = (c .before .before .before .before .pre .ready, (omega arith, omega arith))
+
+add-if1 : tie.Need-add-if1 Inv-loop μ-loop
+add-if1 c =
+    let s = c .before .before .before .before .before in
+    record { fits = omega (arith, sum-low (s .pre) (s .args .low) (omega arith) (omega arith) (c .segment-loss .ensures)) }
+
+returns : tie.Need-returns Inv-loop μ-loop
+returns c = none-lost (omega arith) (c .before .segment-loss .ensures) (c .if1 .taken)
+
 sub-i : tie.Need-sub-i Inv-loop μ-loop
 sub-i c = omega arith
 
@@ -103,25 +128,25 @@ mul-least c = omega arith
 shared-slice-read-least : tie.Need-shared-slice-read-least Inv-loop μ-loop
 shared-slice-read-least c = omega arith
 
-segment-loss-requires : tie.Need-segment-loss-requires Inv-loop μ-loop
-segment-loss-requires c κs = (c .before .before .before .before .pre .ready, (omega arith, omega arith))
+segment-loss-requires-2 : tie.Need-segment-loss-requires-2 Inv-loop μ-loop
+segment-loss-requires-2 c κs = (c .before .before .before .before .before .before .before .pre .ready, (omega arith, omega arith))
 
 add-least : tie.Need-add-least Inv-loop μ-loop
 add-least c =
-    let s = c .before .before .before .before .before in
-    record { fits = omega (arith, sum-low (s .pre) (s .args .to - 1) (omega arith) (omega arith) (c .segment-loss .ensures)) }
+    let s = c .before .before .before .before .before .before .before .before in
+    record { fits = omega (arith, sum-low (s .pre) (s .args .to - 1) (omega arith) (omega arith) (c .segment-loss2 .ensures)) }
 
 loop-holds : tie.Need-loop-holds Inv-loop μ-loop
-loop-holds c = scan-start (omega arith) (c .segment-loss .ensures)
+loop-holds c = scan-start (omega arith) (c .segment-loss2 .ensures)
 
 sub-i-2 : tie.Need-sub-i-2 Inv-loop μ-loop
 sub-i-2 c = omega arith
 
-segment-loss-requires-2 : tie.Need-segment-loss-requires-2 Inv-loop μ-loop
-segment-loss-requires-2 c κs = (c .before .before .before .before .before .before .before .pre .ready, (omega arith, omega arith))
+segment-loss-requires-3 : tie.Need-segment-loss-requires-3 Inv-loop μ-loop
+segment-loss-requires-3 c κs = (c .before .before .before .before .before .before .before .before .before .before .pre .ready, (omega arith, omega arith))
 
-returns : tie.Need-returns Inv-loop μ-loop
-returns c = scan-stop (c .before .before .before .loop .inv) (omega arith) (c .before .segment-loss2 .ensures) (omega arith) (omega arith)
+returns-2 : tie.Need-returns-2 Inv-loop μ-loop
+returns-2 c = scan-stop (c .before .before .before .loop .inv) (omega arith) (c .before .segment-loss3 .ensures) (omega arith) (omega arith)
 
 mul-sum : tie.Need-mul-sum Inv-loop μ-loop
 mul-sum c = omega arith
@@ -132,23 +157,23 @@ shared-slice-read-sum c = omega arith
 add-sum : tie.Need-add-sum Inv-loop μ-loop
 add-sum c =
     let l = c .before .before .before .before in
-    let s = l .before .before .before .before .before .before in
-    record { fits = omega (arith, sum-low (s .pre) (l .loop .i - 1) (omega arith) (omega arith) (c .before .before .segment-loss2 .ensures)) }
+    let s = l .before .before .before .before .before .before .before .before .before in
+    record { fits = omega (arith, sum-low (s .pre) (l .loop .i - 1) (omega arith) (omega arith) (c .before .before .segment-loss3 .ensures)) }
 
 loop-less : tie.Need-loop-less Inv-loop μ-loop
 loop-less c = omega arith
 
 loop-again : tie.Need-loop-again Inv-loop μ-loop
-loop-again c = scan-take (c .before .before .before .before .before .loop .inv) (omega arith) (c .before .before .before .segment-loss2 .ensures) (omega arith)
+loop-again c = scan-take (c .before .before .before .before .before .loop .inv) (omega arith) (c .before .before .before .segment-loss3 .ensures) (omega arith)
 
 loop-less-2 : tie.Need-loop-less-2 Inv-loop μ-loop
 loop-less-2 c = omega arith
 
 loop-again-2 : tie.Need-loop-again-2 Inv-loop μ-loop
-loop-again-2 c = scan-keep (c .before .before .before .before .before .loop .inv) (omega arith) (c .before .before .before .segment-loss2 .ensures) (omega arith)
+loop-again-2 c = scan-keep (c .before .before .before .before .before .loop .inv) (omega arith) (c .before .before .before .segment-loss3 .ensures) (omega arith)
 
-returns-2 : tie.Need-returns-2 Inv-loop μ-loop
-returns-2 c = scan-end (c .before .loop .inv) (omega arith)
+returns-3 : tie.Need-returns-3 Inv-loop μ-loop
+returns-3 c = scan-end (c .before .loop .inv) (omega arith)
 
 pub pick-start-spec : {M : Type 1} → statement M
 pick-start-spec =
@@ -156,15 +181,20 @@ pick-start-spec =
     (tie.spec
     Inv-loop
     μ-loop
+    mul-if1
+    shared-slice-read-if1
+    segment-loss-requires
+    add-if1
+    returns
     sub-i
     mul-least
     shared-slice-read-least
-    segment-loss-requires
+    segment-loss-requires-2
     add-least
     loop-holds
     sub-i-2
-    segment-loss-requires-2
-    returns
+    segment-loss-requires-3
+    returns-2
     mul-sum
     shared-slice-read-sum
     add-sum
@@ -172,4 +202,4 @@ pick-start-spec =
     loop-again
     loop-less-2
     loop-again-2
-    returns-2)
+    returns-3)
