@@ -3,7 +3,7 @@
 ghost use mathlib.Core.Path.{_≡_};
 ghost use Prim.Native.Nat.{_+_, _<_, _≤_};
 ghost use lib.IntN.{pos, natAbs};
-ghost use lib.Signed.{_≤ℤ_};
+ghost use lib.Signed.{_≤ℤ_, mag};
 ghost use lib.ListN.{length};
 ghost use lib.Seq.{slice};
 ghost use Rattle.segment.specs.Segment.{level, levelOf, segmentLoss};
@@ -26,11 +26,12 @@ pub fn level(sum: i32, len: i32) -> i32
     q
 }
 
-// A sample raised by 32,768.
-fn raise(x: i16) -> u32
+// A sample or a level, raised by 32,768.
+fn raise(x: i32) -> u32
+    requires { ⌜ mag x < 32768 ⌝ }
     ensures { λ r. ⌜ (r ≡ raised x) × (r < 65536) ⌝ }
 {
-    (x as i32 + 32768) as u32
+    (x + 32768) as u32
 }
 
 // For each j the sum of the first j raised samples, and the sum of their squares.
@@ -44,7 +45,7 @@ pub fn prefix_sums(samples: &[i16], sums: &mut [u32], squares: &mut [u64])
     sums[0] = 0;
     squares[0] = 0;
     while i < samples.len() {
-        let v = raise(samples[i]);
+        let v = raise(samples[i] as i32);
         let wide = v as u64;
         sum += v;
         square += wide * wide;
@@ -54,14 +55,22 @@ pub fn prefix_sums(samples: &[i16], sums: &mut [u32], squares: &mut [u64])
     }
 }
 
-// The level of the segment of samples from + 1 to to. The samples and the squares are lent for the contract alone.
-pub fn segment_level(samples: &[i16], sums: &[u32], squares: &[u64], from: usize, to: usize) -> i16
+// The level of the segment of samples from + 1 to to, at 32 bits. The samples and the squares are lent for the contract alone.
+fn wide_level(samples: &[i16], sums: &[u32], squares: &[u64], from: usize, to: usize) -> i32
     requires { ⌜ Ready (now samples) (now sums) (now squares) × ((from < to) × (to ≤ length (now samples))) ⌝ }
     ensures { λ r. ⌜ r ≡ levelOf (slice from to (now (samples .entry))) ⌝ }
 {
     let n = (to - from) as i32;
     let sum = (sums[to] - sums[from]) as i32;
-    level(sum - 32768 * n, n) as i16
+    level(sum - 32768 * n, n)
+}
+
+// The same as a sample.
+pub fn segment_level(samples: &[i16], sums: &[u32], squares: &[u64], from: usize, to: usize) -> i16
+    requires { ⌜ Ready (now samples) (now sums) (now squares) × ((from < to) × (to ≤ length (now samples))) ⌝ }
+    ensures { λ r. ⌜ r ≡ levelOf (slice from to (now (samples .entry))) ⌝ }
+{
+    wide_level(samples, sums, squares, from, to) as i16
 }
 
 // The loss of the segment of samples from + 1 to to, at its level. The samples are lent for the contract alone.
@@ -69,7 +78,7 @@ pub fn segment_loss(samples: &[i16], sums: &[u32], squares: &[u64], from: usize,
     requires { ⌜ Ready (now samples) (now sums) (now squares) × ((from < to) × (to ≤ length (now samples))) ⌝ }
     ensures { λ r. ⌜ r ≡ segmentLoss (slice from to (now (samples .entry))) ⌝ }
 {
-    let v = raise(segment_level(samples, sums, squares, from, to)) as u64;
+    let v = raise(wide_level(samples, sums, squares, from, to)) as u64;
     let n = (to - from) as u64;
     let sum = (sums[to] - sums[from]) as u64;
     let square = squares[to] - squares[from];

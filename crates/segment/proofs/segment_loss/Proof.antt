@@ -2,9 +2,9 @@
 -- bounded, balance.
 use native.Mathlib.Omega.{arith}
 use borrow.Author.Needs.{needs}
-use mir.Syntax.{w16}
+use mir.Syntax.{w32}
 use mir.Facts.{toZ-ofZ}
-use Rattle.segment.proofs.Segments.{Between, between, sum-low, Terms, terms}
+use Rattle.segment.proofs.Segments.{Between, between, sum-low, level-fits, Terms, terms}
 use Rattle.segment.proofs.segment_loss.Statement.{statement}
 use Rattle.segment.proofs.segment_loss.Tie as tie
 
@@ -16,14 +16,16 @@ part c = between (c .pre .0) (c .pre .1 .0) (c .pre .1 .1)
 balanced : (c : tie.After-shared-slice-known6) → Terms (part (c .before .before .before .before .before .before .before .before)) (c .before .before .before .before .raise .result)
 balanced c =
     let r = c .before .before .before .before in
-    let l = r .before .segment-level in
-    terms (part (r .before .before .before .before)) (r .raise .result) (rw (toZ-ofZ {w = w16} {z = l .result} (record { sfits = l .ok }), l .ensures) at (r .raise .ensures .0))
+    let l = r .before .wide-level in
+    terms (part (r .before .before .before .before)) (r .raise .result) (rw (toZ-ofZ {w = w32} {z = l .result} (record { sfits = l .ok }), l .ensures) at (r .raise .ensures .0))
 
-segment-level-requires : tie.Need-segment-level-requires
-segment-level-requires c κs = search needs
+wide-level-requires : tie.Need-wide-level-requires
+wide-level-requires c κs = search needs
 
 raise-requires : tie.Need-raise-requires
-raise-requires c κs = search needs
+raise-requires c κs =
+    let l = c .wide-level in
+    rw (toZ-ofZ {w = w32} {z = l .result} (record { sfits = l .ok }), l .ensures) (level-fits (part (c .before .before .before)))
 
 cast-v : tie.Need-cast-v
 cast-v c = search needs
@@ -89,7 +91,7 @@ pub segment-loss-spec : {M : Type 1} → statement M
 segment-loss-spec =
     tie.close
     (tie.spec
-    segment-level-requires
+    wide-level-requires
     raise-requires
     cast-v
     sub-n
