@@ -1,0 +1,82 @@
+// Segmentation of a signal by the textbook dynamic programme, as an engineer would write it in C: 64-bit integers, prefix sums, a full
+// table of least losses and one of starts, every start of a last segment tried (max_segments * n * n / 2 of them).
+#include "plain.h"
+
+// Prefix sums: of the first j samples, and of their squares.
+struct sums {
+    int64_t sum[MAX_SAMPLES + 1];
+    int64_t square[MAX_SAMPLES + 1];
+};
+
+static void add_up(struct sums *s, const int16_t *samples, size_t n)
+{
+    s->sum[0] = 0;
+    s->square[0] = 0;
+    for (size_t i = 0; i < n; i++) {
+        int64_t x = samples[i];
+        s->sum[i + 1] = s->sum[i] + x;
+        s->square[i + 1] = s->square[i] + x * x;
+    }
+}
+
+// The whole number nearest sum / len; of two equally near, the lower.
+static int64_t level_of(int64_t sum, int64_t len)
+{
+    int64_t floor = sum / len;
+    int64_t rest = sum % len;
+    if (rest < 0) {
+        floor--;
+        rest += len;
+    }
+    return 2 * rest > len ? floor + 1 : floor;
+}
+
+// The loss of samples from + 1 to to as one segment.
+static int64_t segment_loss(const struct sums *s, size_t from, size_t to)
+{
+    int64_t len = (int64_t)(to - from);
+    int64_t sum = s->sum[to] - s->sum[from];
+    int64_t level = level_of(sum, len);
+    return s->square[to] - s->square[from] - 2 * level * sum + len * level * level;
+}
+
+struct plain_answer plain_split(const int16_t *samples, size_t n, size_t max_segments, int64_t p, int64_t q,
+                                uint16_t *starts, int16_t *levels)
+{
+    struct sums s;
+    int64_t least[MAX_SEGMENTS + 1][MAX_SAMPLES + 1];     // least[k][j]: of k segments over the first j samples
+    uint16_t before[MAX_SEGMENTS + 1][MAX_SAMPLES + 1];   // the number of samples before the last of them
+    size_t count = max_segments < n ? max_segments : n;
+
+    add_up(&s, samples, n);
+    for (size_t j = 1; j <= n; j++)
+        least[1][j] = segment_loss(&s, 0, j);
+    for (size_t k = 2; k <= count; k++)
+        for (size_t j = k; j <= n; j++) {
+            int64_t best = INT64_MAX;
+            size_t start = 0;
+            for (size_t i = k - 1; i < j; i++) {
+                int64_t loss = least[k - 1][i] + segment_loss(&s, i, j);
+                if (loss < best) {
+                    best = loss;
+                    start = i;
+                }
+            }
+            least[k][j] = best;
+            before[k][j] = (uint16_t)start;
+        }
+
+    // The cheapest number of segments, the smallest of these.
+    size_t segments = 1;
+    for (size_t k = 2; k <= count; k++)
+        if (q * least[k][n] + p * (int64_t)k < q * least[segments][n] + p * (int64_t)segments)
+            segments = k;
+
+    for (size_t k = segments, j = n; k >= 1; k--) {
+        size_t i = k == 1 ? 0 : before[k][j];
+        starts[k - 1] = (uint16_t)(i + 1);
+        levels[k - 1] = (int16_t)level_of(s.sum[j] - s.sum[i], (int64_t)(j - i));
+        j = i;
+    }
+    return (struct plain_answer){segments, least[segments][n]};
+}
