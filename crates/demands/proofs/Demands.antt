@@ -9,7 +9,7 @@ use Rattle.hull.proofs.Penalties.{same-penalty-claim}
 use Rattle.hull.proofs.Updates.{update-claim}
 use Rattle.hull.proofs.Orders.{order-claim}
 use Rattle.demands.specs.Demands.{Demands}
-use Rattle.demands.proofs.Records.{split-claim, record-path-claim, split-path-claim, record-order-claim}
+use Rattle.demands.proofs.Records.{split-claim, record-path-claim, split-path-claim, record-select-claim, split-select-claim, same-split-claim, record-order-claim}
 
 pub demands : Demands
 demands =
@@ -21,7 +21,10 @@ demands =
         size-loss = least-of-all;
         size-loss-reached = least-reached;
         selection = select-claim;
+        record-selection = record-select-claim;
+        split-selection = split-select-claim;
         equal-penalties = same-penalty-claim;
+        equal-splits = same-split-claim;
         update = update-claim;
         build-is-appends = build-claim;
       };

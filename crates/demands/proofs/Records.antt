@@ -8,21 +8,24 @@ use native.Mathlib.Nat.{mul-le-mul-left}
 use native.Mathlib.Omega.{arith}
 use lib.IntN.{ℤ, pos, negsuc}
 use lib.Signed.{mag, _≤ℤ_}
-use lib.ListN.{length, getD, drop}
+use lib.ListN.{length, getD, drop, replicate}
 use lib.Seq.{take-at}
-use Rattle.path.specs.Model.{Model, modelAt, pathOf, sizesOf, lossesOf}
-use Rattle.path.specs.Refusal.{refusalOf, ordered, maxLoss}
+use Rattle.path.specs.Model.{Model, model, sizesOf, lossesOf}
+use Rattle.path.specs.Refusal.{refusalOf, ordered, maxLoss, maxModels}
+use Rattle.path.specs.Buffer.{laid}
 use Rattle.path.proofs.Paths.{length-sizes, length-losses}
-use Rattle.path.proofs.Order.{valid-whole}
+use Rattle.path.proofs.Order.{valid-parts, valid-whole}
 use Rattle.path.proofs.Checks.{refusal-is}
-use Rattle.path.proofs.Buffers.{path-laid}
-use Rattle.select.specs.Penalty.{cost}
+use Rattle.path.proofs.Buffers.{path-laid, valid-laid}
+use Rattle.select.specs.Penalty.{validPenalty, cost}
 use Rattle.select.specs.Select.{selected, selectOf}
-use Rattle.select.proofs.Walks.{accepted, select-done}
+use Rattle.select.specs.declared.Selected.{Selected}
+use Rattle.select.proofs.Walks.{accepted, select-refusal, select-done}
 use Rattle.hull.specs.Claims.{In, PathOfWinners, SmallestCheapest}
 use Rattle.hull.proofs.Winners.{winners-with-skipped}
 use Rattle.hull.proofs.Selections.{selected-with-skipped}
 use Rattle.hull.proofs.Orders.{in-order}
+use Rattle.hull.proofs.Penalties.{same-penalty-claim}
 use Rattle.segment.proofs.Integers.{le-PN}
 use Rattle.segment.proofs.Bounds as bounds
 use Rattle.least.specs.Segmentation.{Piece, Segmentation, lossOf, startsOf, levelsOf, least}
@@ -31,10 +34,11 @@ use Rattle.least.proofs.Optimality.{least-of-all, least-reached, earliest-start
 use Rattle.least.proofs.Chosen.{levels-are-own, starts-rise, starts-count, levels-count, chosen-loss}
 use Rattle.signal.specs.Signal.{sizeCount, modelOf, modelsUpTo, signalPath, segmentsAt, segmentation}
 use Rattle.signal.specs.Outcome.{SplitOutcome, PathOutcome, roomsOf, pathChecks, splitChecks, splitAt, signalPathOf, splitOf}
-use Rattle.signal.proofs.Inputs.{Splittable, splittable}
+use Rattle.signal.specs.Steps.{Solvable}
+use Rattle.signal.proofs.Inputs.{path-solvable, Splittable, splittable}
 use Rattle.signal.proofs.Paths.{path-few, path-ordered}
 use Rattle.signal.proofs.Selections.{PathIn, Entry, entry, in-buffers, path-alone}
-use Rattle.demands.specs.Records.{Samples, GivesCheapest, SplitClaim, RecordPathClaim, SplitPathClaim, RecordOrderClaim}
+use Rattle.demands.specs.Records.{Samples, GivesCheapest, SelectsSmallest, SplitClaim, RecordPathClaim, SplitPathClaim, RecordSelectClaim, SplitSelectClaim, SameSplitClaim, RecordOrderClaim}
 use Rattle.demands.proofs.Tried.{appended, path-sound, tried-or-skipped, size-listed}
 
 -- 16-bit samples in the words of the theory of segments
@@ -49,31 +53,65 @@ small xs h i l = sixteen (getD xs i (pos 0)) (h i l .0) (h i l .1)
 pub path-of-winners : (xs : List ℤ) (k : ℕ) → PathOfWinners (signalPath xs k) (modelsUpTo xs k)
 path-of-winners xs k = winners-with-skipped (signalPath xs k) (appended xs k) (modelsUpTo xs k) (path-sound xs k) (tried-or-skipped xs k)
 
--- the size and the loss that the path gives at a penalty
-module _ (xs : List ℤ) (count p q : ℕ) (ok : PathIn xs count (sizesOf (signalPath xs count)) (lossesOf (signalPath xs count)) (length (signalPath xs count)) p q) (order : ordered (signalPath xs count) ≡ true) where
-  abbrev path : List Model
-  path = signalPath xs count
-
-  abbrev size : ℕ
-  size = segmentsAt path p q
-
-  pub found : Entry xs count p q (selectOf (sizesOf path) (lossesOf path) (length path) p q)
-  found = entry xs count (sizesOf path) (lossesOf path) (length path) p q ok (selectOf (sizesOf path) (lossesOf path) (length path) p q) refl
+-- what is selected at a penalty from the path of a signal, in any buffers that hold it
+module _ (xs : List ℤ) (count : ℕ) (s l : List ℕ) (n p q : ℕ) (ok : PathIn xs count s l n p q) where
+  pub found : Entry xs count p q (selectOf s l n p q)
+  found = entry xs count s l n p q ok (selectOf s l n p q) refl
 
   -- it is the smallest of the cheapest of all sizes
+  pub selects-smallest : SelectsSmallest s l n p q (modelsUpTo xs count)
+  selects-smallest =
+      let ready = in-buffers xs count s l n p q ok in
+      let checks = accepted s l n p q ready in
+      record {
+        accepted = select-refusal s l n p q ∙ checks;
+        smallest = rw (← select-done s l n p q checks (selected s l n p q) refl)
+            (selected-with-skipped s l n (appended xs count) (rw (ok .is) (path-sound xs count)) (valid-parts s l n (ok .valid) .order) (ready .some) p q (modelsUpTo xs count) (tried-or-skipped xs count));
+      }
+
+  -- and the model of a size that occurs
   pub smallest-cheapest : SmallestCheapest p q (modelOf xs (found .last)) (modelsUpTo xs count)
   smallest-cheapest =
-      let s = sizesOf path in
-      let l = lossesOf path in
-      let n = length path in
-      let ready = in-buffers xs count s l n p q ok in
-      let i = selected s l n p q in
-      let answer = select-done s l n p q (accepted s l n p q ready) i refl in
-      let best : SmallestCheapest p q (modelAt s l i) (modelsUpTo xs count) =
-      selected-with-skipped s l n (appended xs count) (rw (path-alone path) (path-sound xs count)) (rw (path-alone path) order) (ready .some) p q (modelsUpTo xs count) (tried-or-skipped xs count) in
-      let same : modelAt s l i ≡ modelOf xs (found .last) =
-      rw (ap (λ r. r .size) answer ∙ found .size, ap (λ r. r .loss) answer ∙ found .loss) in
-      subst (λ (m : Model). SmallestCheapest p q m (modelsUpTo xs count)) same best
+      let same : model (selectOf s l n p q .size) (selectOf s l n p q .loss) ≡ modelOf xs (found .last) = rw (found .size, found .loss) in
+      subst (λ (m : Model). SmallestCheapest p q m (modelsUpTo xs count)) same (selects-smallest .smallest)
+
+-- the path of a signal that a record call accepts
+module _ (xs : List ℤ) (limit : ℕ) (sizes losses scratch : List ℕ) (bits : Samples xs) (ok : Solvable xs limit sizes losses scratch) where
+  abbrev path : List Model
+  path = signalPath xs (sizeCount xs limit)
+
+  low : (m : ℕ) → m < sizeCount xs limit → least xs m (length xs) ≤ maxLoss
+  low m g = omega (arith, least-low xs (small xs bits) m (length xs) (omega arith) (omega arith), ok .short)
+
+  order : ordered path ≡ true
+  order = path-ordered xs (sizeCount xs limit) (omega (arith, ok .few)) low
+
+  some : 0 < sizeCount xs limit
+  some = omega (arith, ok .one, ok .some)
+
+  few : length path ≤ maxModels
+  few = omega (arith, path-few xs (sizeCount xs limit), ok .few)
+
+  module _ (p q : ℕ) (v : validPenalty p q ≡ true) where
+    -- by itself
+    pub path-by-itself : PathIn xs (sizeCount xs limit) (sizesOf path) (lossesOf path) (length path) p q
+    path-by-itself =
+        record {
+          one = some;
+          is = path-alone path;
+          valid = valid-whole (sizesOf path) (lossesOf path) (length path) record {
+            in-sizes = omega (arith, length-sizes path);
+            in-losses = omega (arith, length-losses path);
+            few = few;
+            order = ap ordered (path-alone path) ∙ order;
+          };
+          penalty = v;
+        }
+
+    -- in the buffers that the call leaves
+    pub path-in-buffers : PathIn xs (sizeCount xs limit) (laid (sizesOf path) (sizeCount xs limit) sizes) (laid (lossesOf path) (sizeCount xs limit) losses) (length path) p q
+    path-in-buffers =
+        record { one = some; is = path-laid path (sizeCount xs limit) sizes losses; valid = valid-laid path (sizeCount xs limit) sizes losses order few; penalty = v }
 
 -- an accepted split, taken apart
 module _ (xs : List ℤ) (limit p q : ℕ) (starts : List ℕ) (levels : List ℤ) (sizes losses scratch : List ℕ) where
@@ -99,34 +137,15 @@ module _ (xs : List ℤ) (limit p q : ℕ) (starts : List ℕ) (levels : List �
     asked = splittable xs limit p q (length starts) (length levels) sizes losses scratch none-refused
 
     module _ (bits : Samples xs) where
-      low : (m : ℕ) → m < count → least xs m (length xs) ≤ maxLoss
-      low m g =
-          let ok = asked .solvable in
-          omega (arith, least-low xs (small xs bits) m (length xs) (omega arith) (omega arith), ok .short)
-
-      order : ordered (signalPath xs count) ≡ true
-      order = path-ordered xs count (omega (arith, asked .solvable .few)) low
-
       path-in : PathIn xs count (sizesOf (signalPath xs count)) (lossesOf (signalPath xs count)) (length (signalPath xs count)) p q
-      path-in =
-          record {
-            one = omega (arith, asked .solvable .one, asked .solvable .some);
-            is = path-alone (signalPath xs count);
-            valid = valid-whole (sizesOf (signalPath xs count)) (lossesOf (signalPath xs count)) (length (signalPath xs count)) record {
-              in-sizes = omega (arith, length-sizes (signalPath xs count));
-              in-losses = omega (arith, length-losses (signalPath xs count));
-              few = omega (arith, path-few xs count, asked .solvable .few);
-              order = ap ordered (path-alone (signalPath xs count)) ∙ order;
-            };
-            penalty = asked .penalty;
-          }
+      path-in = path-by-itself xs limit sizes losses scratch bits (asked .solvable) p q (asked .penalty)
 
       -- the size given, and that it is one more than a number of a size that occurs
       abbrev given : ℕ
       given = segmentsAt (signalPath xs count) p q
 
       abbrev here : Entry xs count p q (selectOf (sizesOf (signalPath xs count)) (lossesOf (signalPath xs count)) (length (signalPath xs count)) p q)
-      here = found xs count p q path-in order
+      here = found xs count (sizesOf (signalPath xs count)) (lossesOf (signalPath xs count)) (length (signalPath xs count)) p q path-in
 
       one-more : suc (given - 1) ≡ given
       one-more = omega (arith, here .size)
@@ -140,7 +159,7 @@ module _ (xs : List ℤ) (limit p q : ℕ) (starts : List ℕ) (levels : List �
           chosen-loss xs (given - 1) (length xs) ∙ ap (λ (m : ℕ). least xs m (length xs)) e
 
       best : SmallestCheapest p q (modelOf xs (here .last)) (modelsUpTo xs count)
-      best = smallest-cheapest xs count p q path-in order
+      best = smallest-cheapest xs count (sizesOf (signalPath xs count)) (lossesOf (signalPath xs count)) (length (signalPath xs count)) p q path-in
 
       -- another segmentation costs at least as much as the least loss of its size
       module _ (k : ℕ) (g : List Piece) (some : 1 ≤ k) (few : k ≤ limit) (lawful : Segmentation xs k g) where
@@ -193,6 +212,20 @@ split-claim xs limit p q starts levels sizes losses scratch bits h =
     let given = segmentation xs (segmentsAt (signalPath xs (sizeCount xs limit)) p q) in
     (given, rw (split-is xs limit p q starts levels sizes losses scratch h) (gives xs limit p q starts levels sizes losses scratch h bits))
 
+pub split-select-claim : SplitSelectClaim
+split-select-claim xs limit p q starts levels sizes losses scratch bits h p' q' v =
+    let path = signalPath xs (sizeCount xs limit) in
+    let ok = asked xs limit p q starts levels sizes losses scratch h .solvable in
+    rw (split-is xs limit p q starts levels sizes losses scratch h)
+    (selects-smallest xs (sizeCount xs limit) (laid (sizesOf path) (sizeCount xs limit) sizes) (laid (lossesOf path) (sizeCount xs limit) losses) (length path) p' q' (path-in-buffers xs limit sizes losses scratch bits ok p' q' v))
+
+pub same-split-claim : SameSplitClaim
+unfolding splitOf
+same-split-claim xs limit p q p' q' starts levels sizes losses scratch v v' e =
+    let path = signalPath xs (sizeCount xs limit) in
+    let same : segmentsAt path p q ≡ segmentsAt path p' q' = ap (λ (r : Selected). r .size) (same-penalty-claim (sizesOf path) (lossesOf path) (length path) p q p' q' v v' e) in
+    rw (v, v', splitAt, same)
+
 pub split-path-claim : SplitPathClaim
 split-path-claim xs limit p q starts levels sizes losses scratch h =
     rw (split-is xs limit p q starts levels sizes losses scratch h, path-laid (signalPath xs (sizeCount xs limit)) (sizeCount xs limit) sizes losses) (path-of-winners xs (sizeCount xs limit))
@@ -203,13 +236,35 @@ module _ (xs : List ℤ) (limit : ℕ) (sizes losses scratch : List ℕ) where
   unfolding signalPathOf
   path-refusal = refusal-is (λ (o : PathOutcome). o .refusal) _ _ (refusalOf (pathChecks (length xs) limit (roomsOf sizes losses scratch))) refl refl
 
-  path-left : signalPathOf xs limit sizes losses scratch .refusal ≡ 0
-      → pathOf (signalPathOf xs limit sizes losses scratch .sizes) (signalPathOf xs limit sizes losses scratch .losses) (signalPathOf xs limit sizes losses scratch .entries) ≡ signalPath xs (sizeCount xs limit)
-  unfolding signalPathOf
-  path-left h = rw (sym path-refusal ∙ h) (path-laid (signalPath xs (sizeCount xs limit)) (sizeCount xs limit) sizes losses)
+  module _ (h : signalPathOf xs limit sizes losses scratch .refusal ≡ 0) where
+    pub path-solved : Solvable xs limit sizes losses scratch
+    path-solved = path-solvable xs limit sizes losses scratch (sym path-refusal ∙ h)
+
+    -- what an accepted one leaves
+    abbrev left : PathOutcome
+    left =
+        record {
+          refusal = 0;
+          entries = length (signalPath xs (sizeCount xs limit));
+          sizes = laid (sizesOf (signalPath xs (sizeCount xs limit))) (sizeCount xs limit) sizes;
+          losses = laid (lossesOf (signalPath xs (sizeCount xs limit))) (sizeCount xs limit) losses;
+          scratch = replicate (length scratch) 0;
+        }
+
+    pub path-is : signalPathOf xs limit sizes losses scratch ≡ left
+    unfolding signalPathOf
+    path-is = rw (sym path-refusal ∙ h)
 
 pub record-path-claim : RecordPathClaim
-record-path-claim xs limit sizes losses scratch h = rw (path-left xs limit sizes losses scratch h) (path-of-winners xs (sizeCount xs limit))
+record-path-claim xs limit sizes losses scratch h =
+    rw (path-is xs limit sizes losses scratch h, path-laid (signalPath xs (sizeCount xs limit)) (sizeCount xs limit) sizes losses) (path-of-winners xs (sizeCount xs limit))
+
+pub record-select-claim : RecordSelectClaim
+record-select-claim xs limit sizes losses scratch bits h p q v =
+    let path = signalPath xs (sizeCount xs limit) in
+    let ok = path-solved xs limit sizes losses scratch h in
+    rw (path-is xs limit sizes losses scratch h)
+    (selects-smallest xs (sizeCount xs limit) (laid (sizesOf path) (sizeCount xs limit) sizes) (laid (lossesOf path) (sizeCount xs limit) losses) (length path) p q (path-in-buffers xs limit sizes losses scratch bits ok p q v))
 
 pub record-order-claim : RecordOrderClaim
 record-order-claim =

@@ -3,7 +3,7 @@
 use Rattle.segment.specs.Claims.{NearestLevel, LeastLevel}
 use Rattle.least.specs.Claims.{LeastOfAll, LeastReached, EarliestStarts, LevelsAreOwn, StartsRise}
 use Rattle.hull.specs.Claims.{HistoryClaim, BuildClaim, SelectClaim, SamePenaltyClaim, UpdateClaim, OrderClaim}
-use Rattle.demands.specs.Records.{SplitClaim, RecordPathClaim, SplitPathClaim, RecordOrderClaim}
+use Rattle.demands.specs.Records.{SplitClaim, RecordPathClaim, SplitPathClaim, RecordSelectClaim, SplitSelectClaim, SameSplitClaim, RecordOrderClaim}
 
 -- refusals: a number answers where its cause is the first in the call's order, and in no other case
 pub record RefusalsInOrder : Type 0 where
@@ -18,7 +18,10 @@ pub record DemandTwo : Type 0 where
   pub size-loss : LeastOfAll
   pub size-loss-reached : LeastReached
   pub selection : SelectClaim
+  pub record-selection : RecordSelectClaim
+  pub split-selection : SplitSelectClaim
   pub equal-penalties : SamePenaltyClaim
+  pub equal-splits : SameSplitClaim
   pub update : UpdateClaim
   pub build-is-appends : BuildClaim
 

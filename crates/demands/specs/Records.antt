@@ -1,13 +1,16 @@
 -- The claims on the record calls. They speak of the outcomes that the contracts of `signal_path` and `split` cite, and of every
 -- segmentation of the signal, 01's cutting, at any whole levels.
 use mathlib.Core.Path.{_≡_}
+use mathlib.Core.Bool.{true}
 use mathlib.Core.List.{List, reverse}
 use Prim.Native.Nat.{ℕ, _+_, _*_, _≤_, _<_}
 use lib.IntN.{ℤ, pos, negsuc}
 use lib.Signed.{_≤ℤ_}
 use lib.ListN.{length, getD, take}
-use Rattle.path.specs.Model.{pathOf}
-use Rattle.hull.specs.Claims.{PathOfWinners, Ordered}
+use Rattle.path.specs.Model.{Model, model, pathOf}
+use Rattle.select.specs.Penalty.{validPenalty}
+use Rattle.select.specs.Select.{selectOf}
+use Rattle.hull.specs.Claims.{PathOfWinners, SmallestCheapest, Ordered}
 use Rattle.least.specs.Segmentation.{Piece, Segmentation, OwnLevels, NotLater, lossOf, startsOf, levelsOf}
 use Rattle.least.specs.Claims.{Rising}
 use Rattle.signal.specs.Signal.{sizeCount, modelsUpTo}
@@ -53,6 +56,34 @@ SplitPathClaim =
     (samples : List ℤ) (limit p q : ℕ) (starts : List ℕ) (levels : List ℤ) (sizes losses scratch : List ℕ)
     → splitOf samples limit p q starts levels sizes losses scratch .refusal ≡ 0
     → PathOfWinners (pathOf (splitOf samples limit p q starts levels sizes losses scratch .sizes) (splitOf samples limit p q starts levels sizes losses scratch .losses) (splitOf samples limit p q starts levels sizes losses scratch .entries)) (modelsUpTo samples (sizeCount samples limit))
+
+-- a selection from a path in two buffers is accepted, and gives the smallest of the cheapest of some models
+pub record SelectsSmallest (sizes losses : List ℕ) (entries p q : ℕ) (ms : List Model) : Type 0 where
+  pub accepted : selectOf sizes losses entries p q .refusal ≡ 0
+  pub smallest : SmallestCheapest p q (model (selectOf sizes losses entries p q .size) (selectOf sizes losses entries p q .loss)) ms
+
+-- from the path that a record call leaves every accepted penalty selects the smallest of the cheapest of all sizes that occur
+abbrev pub RecordSelectClaim : Type 0
+RecordSelectClaim =
+    (samples : List ℤ) (limit : ℕ) (sizes losses scratch : List ℕ) → Samples samples
+    → signalPathOf samples limit sizes losses scratch .refusal ≡ 0
+    → (p q : ℕ) → validPenalty p q ≡ true
+    → SelectsSmallest (signalPathOf samples limit sizes losses scratch .sizes) (signalPathOf samples limit sizes losses scratch .losses) (signalPathOf samples limit sizes losses scratch .entries) p q (modelsUpTo samples (sizeCount samples limit))
+
+-- and so it does from the path that a split leaves, at its own penalty or at another
+abbrev pub SplitSelectClaim : Type 0
+SplitSelectClaim =
+    (samples : List ℤ) (limit p q : ℕ) (starts : List ℕ) (levels : List ℤ) (sizes losses scratch : List ℕ) → Samples samples
+    → splitOf samples limit p q starts levels sizes losses scratch .refusal ≡ 0
+    → (p' q' : ℕ) → validPenalty p' q' ≡ true
+    → SelectsSmallest (splitOf samples limit p q starts levels sizes losses scratch .sizes) (splitOf samples limit p q starts levels sizes losses scratch .losses) (splitOf samples limit p q starts levels sizes losses scratch .entries) p' q' (modelsUpTo samples (sizeCount samples limit))
+
+-- equal fractions split every signal the same: 1/2 and 2/4
+abbrev pub SameSplitClaim : Type 0
+SameSplitClaim =
+    (samples : List ℤ) (limit p q p' q' : ℕ) (starts : List ℕ) (levels : List ℤ) (sizes losses scratch : List ℕ)
+    → validPenalty p q ≡ true → validPenalty p' q' ≡ true → p * q' ≡ p' * q
+    → splitOf samples limit p q starts levels sizes losses scratch ≡ splitOf samples limit p' q' starts levels sizes losses scratch
 
 -- the record calls answer by their checks, in the order in which they are listed
 pub record RecordOrderClaim : Type 0 where

@@ -1,5 +1,5 @@
--- The claims on paths, in the words of 01's demands. A fraction is any p / q with p ≥ 0 and q ≥ 1. The proofs are in proofs/,
--- under the same names in small letters.
+-- The claims on paths, in the words of the demands as 01 reads them. A fraction is any p / q with p ≥ 0 and q ≥ 1. The proofs
+-- are in proofs/, under the same names in small letters.
 use mathlib.Core.Path.{_≡_}
 use mathlib.Core.Bool.{Bool, true, false}
 use mathlib.Core.Logic.{_⊎_}
@@ -57,6 +57,7 @@ pub record SameAsAppends (sizes losses s l : List ℕ) : Type 0 where
   pub tests : appends (emptyState s l) (inTurn sizes losses 0 (countOf sizes losses)) .tests ≡ buildOf sizes losses s l .tests
   pub models : appends (emptyState s l) (inTurn sizes losses 0 (countOf sizes losses)) .models ≡ modelsOf sizes losses
 
+-- every accepted build does so
 abbrev pub BuildClaim : Type 0
 BuildClaim = (sizes losses s l : List ℕ) → buildOf sizes losses s l .refusal ≡ 0 → SameAsAppends sizes losses s l
 
@@ -90,6 +91,7 @@ pub record Updated (s l : List ℕ) (n : ℕ) (m : Model) (I : ℕ) : Type 0 whe
   pub new-follows : modelAt (appendOf s l (suc n) m .sizes) (appendOf s l (suc n) m .losses) I ≡ m
   pub breakpoints-are : breakpointsOf (pathOf (appendOf s l (suc n) m .sizes) (appendOf s l (suc n) m .losses) (I + 1)) ≡ breakpoint (modelAt s l (I - 1)) m ∷ breakpointsOf (pathOf s l I)
 
+-- they hold on every accepted append to a path that has an entry
 abbrev pub UpdateClaim : Type 0
 UpdateClaim = (s l : List ℕ) (n : ℕ) (m : Model) → appendOf s l (suc n) m .refusal ≡ 0 → Updated s l n m (length (kept (pathOf s l (suc n)) m))
 

@@ -62,7 +62,7 @@ sized-at xs k s l (suc n) h i p =
 
 -- what is selected from the path of a signal in any buffers
 pub record Entry (xs : List ℤ) (count p q : ℕ) (found : Selected) : Type 0 where
-  pub size-is : found .size ≡ segmentsAt (signalPath xs count) p q
+  pub is : found ≡ selectOf (sizesOf (signalPath xs count)) (lossesOf (signalPath xs count)) (length (signalPath xs count)) p q
   pub last : ℕ
   pub few : last < count
   pub size : found .size ≡ suc last
@@ -112,7 +112,7 @@ module _ (xs : List ℤ) (count : ℕ) (s l : List ℕ) (n p q : ℕ) (ok : Path
       let answer : found ≡ selection s l i = e ∙ sym (select-done s l n p q (accepted s l n p q in-buffers) i refl) in
       let m = sized-at xs count s l n (rw (ok .is) (path-sized xs count)) i (omega (arith, some)) in
       record {
-        size-is = ap (λ (r : Selected). r .size) (e ∙ select-agrees s l (sizesOf path) (lossesOf path) n p q same in-buffers alone) ∙ ap (λ (k : ℕ). selectOf (sizesOf path) (lossesOf path) k p q .size) entries;
+        is = e ∙ select-agrees s l (sizesOf path) (lossesOf path) n p q same in-buffers alone ∙ ap (λ (k : ℕ). selectOf (sizesOf path) (lossesOf path) k p q) entries;
         last = m .0;
         few = m .1;
         size = ap (λ (r : Selected). r .size) answer ∙ ap (λ (x : Model). x .size) (m .2);
@@ -152,6 +152,7 @@ module _ (xs : List ℤ) (count : ℕ) (s l : List ℕ) (n p q : ℕ) (w starts 
       pub segmented : (levels' : List ℤ) → levels' ≡ levelsOf (segmentation xs (found .size)) ++ drop (found .size) levels → SegmentedAt xs count p q starts levels starts' levels' found
       segmented levels' f =
           let k = found .size in
+          let size : k ≡ segmentsAt (signalPath xs count) p q = ap (λ (r : Selected). r .size) (h .is) in
           let one : suc (k - 1) ≡ k = omega (arith, h .size) in
           let last : k - 1 ≡ h .last = omega (arith, h .size) in
           let starts-long : length (startsOf (segmentation xs k)) ≡ k = starts-count xs (k - 1) (length xs) ∙ one in
@@ -160,8 +161,8 @@ module _ (xs : List ℤ) (count : ℕ) (s l : List ℕ) (n p q : ℕ) (w starts 
           let fs : starts' ≡ fronted (startsOf (segmentation xs k)) starts = e ∙ ap (λ (m : ℕ). startsOf (segmentation xs k) ++ drop m starts) (sym starts-long) in
           let fl : levels' ≡ fronted (levelsOf (segmentation xs k)) levels = f ∙ ap (λ (m : ℕ). levelsOf (segmentation xs k) ++ drop m levels) (sym levels-long) in
           record {
-            size-is = h .size-is;
-            loss-is = loss ∙ ap (λ (m : ℕ). lossOf (segmentation xs m)) (h .size-is);
-            starts-are = fs ∙ ap (λ (m : ℕ). fronted (startsOf (segmentation xs m)) starts) (h .size-is);
-            levels-are = fl ∙ ap (λ (m : ℕ). fronted (levelsOf (segmentation xs m)) levels) (h .size-is);
+            found-is = h .is;
+            loss-is = loss ∙ ap (λ (m : ℕ). lossOf (segmentation xs m)) size;
+            starts-are = fs ∙ ap (λ (m : ℕ). fronted (startsOf (segmentation xs m)) starts) size;
+            levels-are = fl ∙ ap (λ (m : ℕ). fronted (levelsOf (segmentation xs m)) levels) size;
           }

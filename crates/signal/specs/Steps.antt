@@ -9,6 +9,7 @@ use Rattle.path.specs.Model.{pathOf, sizesOf, lossesOf}
 use Rattle.path.specs.Refusal.{validPath, maxLoss}
 use Rattle.path.specs.Buffer.{laid, fronted}
 use Rattle.select.specs.Penalty.{validPenalty}
+use Rattle.select.specs.Select.{selectOf}
 use Rattle.select.specs.declared.Selected.{Selected}
 use Rattle.least.specs.Segmentation.{least, startsOf, levelsOf, lossOf}
 use Rattle.least.specs.Table.{scratchLen, StartsAre}
@@ -59,9 +60,9 @@ pub record SegmentFrom (samples : List ℤ) (count : ℕ) (sizes losses : List �
   pub starts-fit : count ≤ length starts
   pub levels-fit : count ≤ length levels
 
--- the segmentation of a signal at a penalty: its size and loss as the path's entry has them, its starts and its levels
+-- the segmentation of a signal at a penalty: the path's entry there, which has its size and its loss, its starts and its levels
 pub record SegmentedAt (samples : List ℤ) (count p q : ℕ) (starts₀ : List ℕ) (levels₀ : List ℤ) (starts : List ℕ) (levels : List ℤ) (found : Selected) : Type 0 where
-  pub size-is : found .size ≡ segmentsAt (signalPath samples count) p q
+  pub found-is : found ≡ selectOf (sizesOf (signalPath samples count)) (lossesOf (signalPath samples count)) (length (signalPath samples count)) p q
   pub loss-is : found .loss ≡ lossOf (segmentation samples (segmentsAt (signalPath samples count) p q))
   pub starts-are : starts ≡ fronted (startsOf (segmentation samples (segmentsAt (signalPath samples count) p q))) starts₀
   pub levels-are : levels ≡ fronted (levelsOf (segmentation samples (segmentsAt (signalPath samples count) p q))) levels₀

@@ -11,6 +11,7 @@ ghost use Rattle.path.specs.Buffer.{Held};
 ghost use Rattle.signal.specs.Signal.{signalPath};
 ghost use Rattle.signal.specs.Outcome.{inputChecks, pathFits, pathChecks, splitChecks, pathOutcome, signalPathOf, splitOutcome, splitOf};
 ghost use Rattle.signal.specs.Steps.{LossesFrom, Solvable, Solved, SegmentFrom, SegmentedAt};
+use least::SCRATCH_LEN;
 use least::fill_table;
 use least::put_levels;
 use least::trace_back;
@@ -69,7 +70,7 @@ fn path_fits(count: usize, sizes_room: usize, losses_room: usize, scratch_room: 
     if losses_room < count {
         return false;
     }
-    31744 <= scratch_room
+    SCRATCH_LEN <= scratch_room
 }
 
 // The refusal of a path call: the first of 1, 2, 3 and 9, or 0.
