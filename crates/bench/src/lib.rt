@@ -1,4 +1,5 @@
-// What the benchmark links: the segmentation call of the crate `signal` under a name for C.
+// What the benchmark links: the segmentation call of the crate `signal` under a name for C, with the same contract. It adds
+// nothing, and no other crate uses it.
 
 ghost use mathlib.Core.Path.{_≡_};
 ghost use Rattle.signal.specs.Outcome.{splitOutcome, splitOf};

@@ -1,4 +1,5 @@
--- The whole outcome of a build from a list of sizes and a list of losses: the path of its models, one after the other.
+-- The whole outcome of a build from a list of sizes and a list of losses: the path of its models, one after the other, and
+-- the tests made for each. The contract of `build` says that its outcome equals `buildOf`.
 use mathlib.Core.Bool.{cond, _&&_}
 use mathlib.Core.List.{List, [], _∷_, _++_}
 use Prim.Native.Nat.{ℕ, zero, suc, _+_, max}

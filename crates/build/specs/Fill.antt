@@ -1,4 +1,5 @@
--- What the loop of a build asks of its lists, and what it has done after i models.
+-- What the loop of a build asks of its lists, and what it has done after i models. These records are the contract of an
+-- inner function and no part of what a caller reads.
 use mathlib.Core.Path.{_≡_}
 use mathlib.Core.List.{List}
 use Prim.Native.Nat.{ℕ, _+_, _≤_}

@@ -19,7 +19,7 @@ use Rattle.select.specs.Select.{selectChecks}
 use Rattle.select.specs.Breakpoints.{breakpointChecks}
 use Rattle.select.proofs.Walks.{select-refusal}
 use Rattle.select.proofs.Listings.{breakpoints-refusal}
-use Rattle.hull.specs.Claims.{FirstFailure, AllPass, Ordered, OrderClaim}
+use Rattle.hull.specs.Claims.{FirstFailure, AllPass, AnswersInOrder, OrderClaim}
 
 -- the first check that fails answers
 failure-answers : (cs : List Check) (c : ℕ) → FirstFailure cs c → refusalOf cs ≡ c
@@ -52,7 +52,7 @@ accepted-all (d ∷ ds) n e =
     (h .0, accepted-all ds (m .1) (h .1))
 
 -- any list of checks whose numbers are above 0
-pub in-order : (cs : List Check) → numbered cs ≡ true → (refusal : ℕ) → refusal ≡ refusalOf cs → Ordered cs refusal
+pub in-order : (cs : List Check) → numbered cs ≡ true → (refusal : ℕ) → refusal ≡ refusalOf cs → AnswersInOrder cs refusal
 in-order cs n r e =
     record {
       refused-if = λ c f. e ∙ failure-answers cs c f;

@@ -106,7 +106,7 @@ AllPass [] = Unit {0}
 AllPass (d ∷ ds) = (d .passes ≡ true) × AllPass ds
 
 -- a number other than 0 answers just where its check is the first that fails, and 0 just where all pass
-pub record Ordered (cs : List Check) (refusal : ℕ) : Type 0 where
+pub record AnswersInOrder (cs : List Check) (refusal : ℕ) : Type 0 where
   pub refused-if : (c : ℕ) → FirstFailure cs c → refusal ≡ c
   pub refused-only-if : (c : ℕ) → 0 < c → refusal ≡ c → FirstFailure cs c
   pub accepted-if : AllPass cs → refusal ≡ 0
@@ -114,7 +114,7 @@ pub record Ordered (cs : List Check) (refusal : ℕ) : Type 0 where
 
 -- each call answers by its checks, in the order in which they are listed
 pub record OrderClaim : Type 0 where
-  pub append : (s l : List ℕ) (n : ℕ) (m : Model) → Ordered (appendChecks s l n m) (appendOf s l n m .refusal)
-  pub build : (sizes losses s l : List ℕ) → Ordered (buildChecks sizes losses (length s) (length l)) (buildOf sizes losses s l .refusal)
-  pub select : (s l : List ℕ) (n p q : ℕ) → Ordered (selectChecks s l n p q) (selectOf s l n p q .refusal)
-  pub breakpoints : (s l : List ℕ) (n : ℕ) (a b : List ℕ) → Ordered (breakpointChecks s l n (length a) (length b)) (breakpointsIn s l n a b .refusal)
+  pub append : (s l : List ℕ) (n : ℕ) (m : Model) → AnswersInOrder (appendChecks s l n m) (appendOf s l n m .refusal)
+  pub build : (sizes losses s l : List ℕ) → AnswersInOrder (buildChecks sizes losses (length s) (length l)) (buildOf sizes losses s l .refusal)
+  pub select : (s l : List ℕ) (n p q : ℕ) → AnswersInOrder (selectChecks s l n p q) (selectOf s l n p q .refusal)
+  pub breakpoints : (s l : List ℕ) (n : ℕ) (a b : List ℕ) → AnswersInOrder (breakpointChecks s l n (length a) (length b)) (breakpointsIn s l n a b .refusal)

@@ -1,4 +1,5 @@
-// Numbers as items of a byte string: get and put an item of two bytes, low byte first.
+// Numbers as items of a byte string: get and put an item of two bytes, low byte first. The table of starts in the scratch is
+// made of such items.
 ghost use mathlib.Core.Path.{_≡_};
 ghost use Prim.Native.Nat.{_+_, _≤_};
 ghost use lib.ListN.{length};

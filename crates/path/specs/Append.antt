@@ -1,4 +1,5 @@
--- The whole outcome of an append: the answer, the refusal and both buffers at exit.
+-- The whole outcome of an append: the answer, the refusal and both buffers at exit. The contract of `append` says that its
+-- outcome equals `appendOf`; a build leaves an outcome of the same form.
 use mathlib.Core.Bool.{cond}
 use mathlib.Core.List.{List, [], _∷_, _++_}
 use Prim.Native.Nat.{ℕ}

@@ -1,4 +1,5 @@
--- What the scan asks of its input, and what it answers.
+-- What the scan asks of its input, and what it answers. These are the contracts of inner functions and no part of what a
+-- caller reads.
 use Prim.Native.Nat.{ℕ, suc, _≤_, _<_}
 use mathlib.Core.List.{List}
 use lib.ListN.{getD, length}

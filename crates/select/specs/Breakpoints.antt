@@ -1,4 +1,5 @@
--- The whole outcome of writing out a path's breakpoints: unreduced fractions at the front of two buffers.
+-- The whole outcome of writing out a path's breakpoints: unreduced fractions at the front of two buffers. The contract of
+-- `breakpoints` says that its outcome equals `breakpointsIn`.
 use mathlib.Core.Bool.{cond, _&&_}
 use mathlib.Core.List.{List, [], _∷_, _++_}
 use Prim.Native.Nat.{ℕ}

@@ -1,4 +1,5 @@
--- What the loop that writes breakpoints asks of its input, and what it has written after i of them.
+-- What the loop that writes breakpoints asks of its input, and what it has written after i of them. These records are the
+-- contract of an inner function and no part of what a caller reads.
 use mathlib.Core.Path.{_≡_}
 use mathlib.Core.Bool.{true}
 use mathlib.Core.List.{List}

@@ -1,4 +1,5 @@
--- A penalty, 01's price, is a fraction p / q, and what a model costs at it.
+-- A penalty, 01's price, is a fraction p / q. Here is its range, and what a model costs at it. Equal fractions are equal
+-- penalties; that they select the same is claimed in the crate `hull`.
 use mathlib.Core.Bool.{Bool, _&&_}
 use Prim.Native.Nat.{ℕ, _+_, _*_}
 use lib.Dec.{leb}

@@ -1,4 +1,5 @@
--- The whole outcome of a selection, 01's choosing: the entry at which the walk from the first entry on ends.
+-- The whole outcome of a selection, 01's choosing: the entry at which the walk from the first entry on ends. It is fixed for
+-- every ordered list; the contract of `select` says that its answer equals `selectOf`.
 use mathlib.Core.Bool.{cond}
 use mathlib.Core.List.{List, [], _∷_}
 use Prim.Native.Nat.{ℕ, zero, suc, _-_}

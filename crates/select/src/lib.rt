@@ -1,4 +1,5 @@
-// The model that a path gives at a penalty, and the breakpoints between its entries.
+// The model that a path gives at a penalty, and the breakpoints between its entries. Both take a lent path as it stands, and
+// test that it is in order.
 
 ghost use mathlib.Core.Path.{_≡_};
 ghost use mathlib.Core.Bool.{true};

@@ -1,4 +1,5 @@
--- What the steps of a record call ask for and leave.
+-- What the steps of a record call ask for and leave. These records are the contracts of the calls from which a record call,
+-- and later a report, is made.
 use mathlib.Core.Path.{_≡_}
 use mathlib.Core.Bool.{true}
 use mathlib.Core.List.{List}
@@ -13,11 +14,11 @@ use Rattle.select.specs.Select.{selectOf}
 use Rattle.select.specs.declared.Selected.{Selected}
 use Rattle.least.specs.Segmentation.{least, startsOf, levelsOf, lossOf}
 use Rattle.least.specs.Table.{scratchLen, StartsAre}
-use Rattle.signal.specs.Signal.{sizeCount, signalPath, segmentsAt, segmentation}
+use Rattle.signal.specs.Signal.{maxSamples, maxLimit, sizeCount, signalPath, segmentsAt, segmentation}
 
 -- the least losses of 1 to count segments are at hand, and the path's buffers have room for as many entries
 pub record LossesFrom (samples : List ℤ) (losses : List ℕ) (count sizesRoom lossesRoom : ℕ) : Type 0 where
-  pub few : count ≤ 32
+  pub few : count ≤ maxLimit
   pub listed : count ≤ length losses
   pub sizes-fit : count ≤ sizesRoom
   pub losses-fit : count ≤ lossesRoom
@@ -27,9 +28,9 @@ pub record LossesFrom (samples : List ℤ) (losses : List ℕ) (count sizesRoom 
 -- a signal and a limit in their ranges, and buffers that fit
 pub record Solvable (samples : List ℤ) (limit : ℕ) (sizes losses scratch : List ℕ) : Type 0 where
   pub some : 0 < length samples
-  pub short : length samples ≤ 512
+  pub short : length samples ≤ maxSamples
   pub one : 0 < limit
-  pub few : limit ≤ 32
+  pub few : limit ≤ maxLimit
   pub sizes-fit : sizeCount samples limit ≤ length sizes
   pub losses-fit : sizeCount samples limit ≤ length losses
   pub scratch-fits : scratchLen ≤ length scratch
@@ -49,9 +50,9 @@ pub record Solved (samples : List ℤ) (limit : ℕ) (s₀ l₀ s l scratch : Li
 
 -- a path and a table of a signal, a penalty in its range, and room for the starts and the levels
 pub record SegmentFrom (samples : List ℤ) (count : ℕ) (sizes losses : List ℕ) (entries p q : ℕ) (scratch starts : List ℕ) (levels : List ℤ) : Type 0 where
-  pub short : length samples ≤ 512
+  pub short : length samples ≤ maxSamples
   pub one : 0 < count
-  pub few : count ≤ 32
+  pub few : count ≤ maxLimit
   pub enough : count ≤ length samples
   pub path : pathOf sizes losses entries ≡ signalPath samples count
   pub valid : validPath sizes losses entries ≡ true

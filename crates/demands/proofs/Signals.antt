@@ -38,7 +38,7 @@ use Rattle.signal.specs.Steps.{Solvable}
 use Rattle.signal.proofs.Inputs.{path-solvable, Splittable, splittable}
 use Rattle.signal.proofs.Paths.{path-few, path-ordered}
 use Rattle.signal.proofs.Selections.{PathIn, Entry, entry, in-buffers, path-alone}
-use Rattle.demands.specs.Records.{Samples, GivesCheapest, SelectsSmallest, SplitClaim, RecordPathClaim, SplitPathClaim, RecordSelectClaim, SplitSelectClaim, SameSplitClaim, RecordOrderClaim}
+use Rattle.demands.specs.Signals.{Samples, GivesCheapest, SelectsSmallest, SplitClaim, SignalPathClaim, SplitPathClaim, SignalSelectClaim, SplitSelectClaim, SameSplitClaim, SignalOrderClaim}
 use Rattle.demands.proofs.Tried.{appended, path-sound, tried-or-skipped, size-listed}
 
 -- 16-bit samples in the words of the theory of segments
@@ -255,19 +255,19 @@ module _ (xs : List ℤ) (limit : ℕ) (sizes losses scratch : List ℕ) where
     unfolding signalPathOf
     path-is = rw (sym path-refusal ∙ h)
 
-pub record-path-claim : RecordPathClaim
-record-path-claim xs limit sizes losses scratch h =
+pub signal-path-claim : SignalPathClaim
+signal-path-claim xs limit sizes losses scratch h =
     rw (path-is xs limit sizes losses scratch h, path-laid (signalPath xs (sizeCount xs limit)) (sizeCount xs limit) sizes losses) (path-of-winners xs (sizeCount xs limit))
 
-pub record-select-claim : RecordSelectClaim
-record-select-claim xs limit sizes losses scratch bits h p q v =
+pub signal-select-claim : SignalSelectClaim
+signal-select-claim xs limit sizes losses scratch bits h p q v =
     let path = signalPath xs (sizeCount xs limit) in
     let ok = path-solved xs limit sizes losses scratch h in
     rw (path-is xs limit sizes losses scratch h)
     (selects-smallest xs (sizeCount xs limit) (laid (sizesOf path) (sizeCount xs limit) sizes) (laid (lossesOf path) (sizeCount xs limit) losses) (length path) p q (path-in-buffers xs limit sizes losses scratch bits ok p q v))
 
-pub record-order-claim : RecordOrderClaim
-record-order-claim =
+pub signal-order-claim : SignalOrderClaim
+signal-order-claim =
     record {
       signal-path = λ xs limit sizes losses scratch. in-order (pathChecks (length xs) limit (roomsOf sizes losses scratch)) refl (signalPathOf xs limit sizes losses scratch .refusal) (path-refusal xs limit sizes losses scratch);
       split = λ xs limit p q starts levels sizes losses scratch. in-order (splitChecks (length xs) limit p q (length starts) (length levels) (roomsOf sizes losses scratch)) refl (splitOf xs limit p q starts levels sizes losses scratch .refusal) (split-refusal xs limit p q starts levels sizes losses scratch);
