@@ -1,0 +1,130 @@
+// Builds and paths at the limit of 4,096 models, from lists of 4,100 models.
+
+use crate::paths::calls;
+use testing::list::at;
+use testing::list::plus;
+use testing::text::print;
+
+// The sizes 1, 2 and so on.
+fn rising() -> [u64; 4100] {
+    let mut sizes = [0u64; 4100];
+    for i in 0..4100 {
+        sizes[i] = i as u64 + 1;
+    }
+    sizes
+}
+
+// Losses that fall by 1: of the models with them a path keeps the first and the last.
+fn straight() -> [u64; 4100] {
+    let mut losses = [0u64; 4100];
+    for i in 0..4100 {
+        losses[i] = 4099 - i as u64;
+    }
+    losses
+}
+
+// Losses that fall by less and less, at the end by 2, to a million: a path keeps all models with them.
+fn convex() -> [u64; 4100] {
+    let mut losses = [0u64; 4100];
+    let mut loss = 1000000;
+    for i in 0..4100 {
+        losses[4099 - i] = loss;
+        loss = plus(loss, i as u64 + 2);
+    }
+    losses
+}
+
+// A build from the first n sizes and the first m losses.
+fn print_build(sizes: &[u64], losses: &[u64], n: usize, m: usize) {
+    if sizes.len() < n {
+        return;
+    }
+    if losses.len() < m {
+        return;
+    }
+    print(b"build of # sizes, # losses", &[n as u64, m as u64]);
+    calls::print_build(&sizes[0..n], &losses[0..m], 4100);
+}
+
+// Builds of 4,096 models, of one more, and from lists of unequal length.
+fn print_builds(sizes: &[u64], losses: &[u64]) {
+    print_build(sizes, losses, 4096, 4096);
+    print_build(sizes, losses, 4097, 4097);
+    print_build(sizes, losses, 0, 4097);
+    print_build(sizes, losses, 4097, 0);
+    print_build(sizes, losses, 0, 4096);
+    print_build(sizes, losses, 4096, 0);
+    print_build(sizes, losses, 4096, 4095);
+    print_build(sizes, losses, 0, 0);
+}
+
+// An append: the entries, the places, and the new model.
+fn print_append(sizes: &[u64], losses: &[u64], row: &[u64]) {
+    print(b"append to # entries in # places, model # #", row);
+    calls::print_append(
+        sizes,
+        losses,
+        at(row, 0) as usize,
+        at(row, 1) as usize,
+        at(row, 2),
+        at(row, 3),
+    );
+}
+
+fn print_appends(sizes: &[u64], losses: &[u64], rows: &[u64]) {
+    for i in 0..rows.len() / 4 {
+        print_append(sizes, losses, &rows[i * 4..i * 4 + 4]);
+    }
+}
+
+// A selection and a listing on the first entries.
+fn print_reading(sizes: &[u64], losses: &[u64], entries: usize) {
+    print(b"path of # entries", &[entries as u64]);
+    calls::print_reading(sizes, losses, entries, 2000, 1);
+}
+
+// Appends to full paths: with no place for one more, with one, as entry 4,097 in 4,096 places and in more, one that drops an
+// entry at a tie, one that drops many, and one to a path over the limit.
+pub fn run() {
+    let sizes = rising();
+    let losses = straight();
+    let bending = convex();
+    print_builds(&sizes, &losses);
+    print_build(&sizes, &bending, 4096, 4096);
+    print_appends(
+        &sizes,
+        &bending,
+        &[
+            4095,
+            4095,
+            4099,
+            1000015, //
+            4095,
+            4096,
+            4099,
+            1000015, //
+            4096,
+            4096,
+            4097,
+            1000013, //
+            4096,
+            4100,
+            4097,
+            1000013, //
+            4096,
+            4096,
+            4097,
+            1000008, //
+            4096,
+            4096,
+            4097,
+            0, //
+            4097,
+            4100,
+            4101,
+            0, //
+        ],
+    );
+    print_reading(&sizes, &bending, 4096);
+    print_reading(&sizes, &bending, 4097);
+}

@@ -1,0 +1,109 @@
+// Random paths of 24 entries, with two neighbours exchanged, one size or loss replaced, or another number of entries said:
+// every call refuses those, and only those, that a test of all pairs of entries finds out of order.
+
+use crate::exhaustive;
+use crate::models;
+use testing::list::MARK;
+use testing::list::fault;
+use testing::list::minus;
+use testing::list::plus;
+use testing::list::wrong_places;
+use testing::random::next;
+use testing::random::start;
+use testing::text::print;
+
+// What came of some paths.
+struct Counts {
+    faults: u64,
+    refused: u64,
+}
+
+// What stands in place of a value, by the kind of damage.
+fn damaged(kind: u64, value: u64) -> u64 {
+    match kind {
+        0 => 0,
+        1 => 65536,
+        2 => 17592186044417,
+        3 => plus(value, 1),
+        4 => minus(value, 1),
+        _ => value,
+    }
+}
+
+// 1 where listing the breakpoints of a path is refused and it is good, or the other way round, and else 0.
+fn listing_fault(sizes: &[u64], losses: &[u64], entries: usize, good: bool) -> u64 {
+    let mut numerators = [MARK; 24];
+    let mut denominators = [MARK; 24];
+    let listed = select::breakpoints(sizes, losses, entries, &mut numerators, &mut denominators);
+    fault((listed.refusal == 8) != good)
+}
+
+// The mismatches of an append, which changes nothing if it is refused.
+fn append_faults(sizes: [u64; 24], losses: [u64; 24], entries: usize, good: bool) -> u64 {
+    let mut path_sizes = sizes;
+    let mut path_losses = losses;
+    let made = path::append(&mut path_sizes, &mut path_losses, entries, 65535, 0);
+    let changed = plus(
+        wrong_places(&path_sizes, &sizes, 24, 0),
+        wrong_places(&path_losses, &losses, 24, 0),
+    );
+    plus(
+        fault((made.refusal == 8) != good),
+        fault(made.refusal == 0 || changed == 0),
+    )
+}
+
+// The mismatches of a path of so many entries, and 1 where it is refused.
+fn check_path(sizes: [u64; 24], losses: [u64; 24], entries: usize) -> Counts {
+    let good = exhaustive::is_path(&sizes, &losses, entries);
+    let selected = select::select(&sizes, &losses, entries, 1, 1);
+    let reading = plus(
+        fault((selected.refusal == 8) != good),
+        listing_fault(&sizes, &losses, entries, good),
+    );
+    Counts {
+        faults: plus(reading, append_faults(sizes, losses, entries, good)),
+        refused: fault(selected.refusal != 8),
+    }
+}
+
+// The path n: now and then with an entry more said than there are, with the entry i exchanged with the one before it, or with
+// a size or a loss of it damaged.
+fn check_random(n: u64) -> Counts {
+    let x = start(2, n);
+    let y = next(x);
+    let mut sizes = models::sizes(1, x);
+    let mut losses = models::losses(1, y, &sizes, 0);
+    let i = (x % 23) as usize + 1;
+    let j = i - (y % 2) as usize;
+    let size = sizes[i];
+    let loss = losses[i];
+    sizes[i] = sizes[j];
+    losses[i] = losses[j];
+    sizes[j] = damaged(n % 12, size);
+    losses[j] = damaged(n / 12 % 12, loss);
+    check_path(sizes, losses, 25 - (y % 5) as usize)
+}
+
+fn check_many(paths: u64) -> Counts {
+    let mut counts = Counts {
+        faults: 0,
+        refused: 0,
+    };
+    for i in 0..paths {
+        let more = check_random(i);
+        counts = Counts {
+            faults: plus(counts.faults, more.faults),
+            refused: plus(counts.refused, more.refused),
+        };
+    }
+    counts
+}
+
+pub fn run() {
+    let counts = check_many(20000);
+    print(
+        b"20000 damaged paths: mismatches #, refused #\n",
+        &[counts.faults, counts.refused],
+    );
+}

@@ -1,0 +1,227 @@
+// Random lists: builds, the same models appended one by one, breakpoints and selections, against what an exhaustive search
+// finds.
+
+use crate::exhaustive;
+use crate::history;
+use crate::history::History;
+use crate::models;
+use testing::list::MARK;
+use testing::list::at;
+use testing::list::fault;
+use testing::list::minus;
+use testing::list::plus;
+use testing::random::next;
+use testing::random::start;
+use testing::text::print;
+
+// What was compared.
+struct Totals {
+    faults: u64,
+    models: u64,
+    entries: u64,
+    tests: u64,
+}
+
+// Appends models one by one.
+fn append_all(
+    sizes: &[u64],
+    losses: &[u64],
+    path_sizes: &mut [u64],
+    path_losses: &mut [u64],
+) -> History {
+    let mut made = history::empty();
+    for i in 0..sizes.len() {
+        let answer = path::append(
+            path_sizes,
+            path_losses,
+            made.entries,
+            at(sizes, i),
+            at(losses, i),
+        );
+        made = history::after(made, answer, 1);
+    }
+    made
+}
+
+// The mismatches of the models appended one by one.
+fn append_faults(sizes: &[u64], losses: &[u64]) -> u64 {
+    let mut path_sizes = [MARK; 12];
+    let mut path_losses = [MARK; 12];
+    let made = append_all(sizes, losses, &mut path_sizes, &mut path_losses);
+    history::faults(sizes, losses, &path_sizes, &path_losses, made)
+}
+
+// The distance of the values i and i + 1 of the first m, and a mark past them.
+fn gap_at(values: &[u64], m: u64, i: usize) -> u64 {
+    if m <= plus(i as u64, 1) {
+        return MARK;
+    }
+    let here = at(values, i);
+    let after = at(values, plus(i as u64, 1) as usize);
+    plus(minus(here, after), minus(after, here))
+}
+
+// The number of places of a list that do not have the distances of the first m of some values, and then marks.
+fn gap_faults(gaps: &[u64], values: &[u64], m: u64) -> u64 {
+    let mut faults = 0;
+    for i in 0..gaps.len() {
+        faults = plus(faults, fault(at(gaps, i) == gap_at(values, m, i)));
+    }
+    faults
+}
+
+// The mismatches of the breakpoints of a path.
+fn breakpoint_faults(sizes: &[u64], losses: &[u64], entries: usize) -> u64 {
+    let mut numerators = [MARK; 12];
+    let mut denominators = [MARK; 12];
+    let listed = select::breakpoints(sizes, losses, entries, &mut numerators, &mut denominators);
+    let m = entries as u64;
+    plus(
+        fault(listed.refusal == 0 && plus(listed.count as u64, 1) == m),
+        plus(
+            gap_faults(&numerators, losses, m),
+            gap_faults(&denominators, sizes, m),
+        ),
+    )
+}
+
+// The mismatches of the model that a path gives at the penalty p / q and the first of the cheapest of all models.
+fn selection_faults(
+    sizes: &[u64],
+    losses: &[u64],
+    path_sizes: &[u64],
+    path_losses: &[u64],
+    entries: usize,
+    p: u64,
+    q: u64,
+) -> u64 {
+    let model = select::select(path_sizes, path_losses, entries, p, q);
+    let best = exhaustive::cheapest(sizes, losses, p, q);
+    plus(
+        fault(model.refusal == 0 && model.size == at(path_sizes, model.index)),
+        fault(model.size == at(sizes, best) && model.loss == at(losses, best)),
+    )
+}
+
+// The mismatches at the penalty at which two models cost the same, and at its two neighbours; none if the first does not come
+// before the second.
+fn pair_faults(
+    sizes: &[u64],
+    losses: &[u64],
+    path_sizes: &[u64],
+    path_losses: &[u64],
+    entries: usize,
+    i: usize,
+    j: usize,
+) -> u64 {
+    if j <= i || sizes.len() <= j {
+        return 0;
+    }
+    let p = minus(at(losses, i), at(losses, j));
+    let q = minus(at(sizes, j), at(sizes, i));
+    let here = selection_faults(sizes, losses, path_sizes, path_losses, entries, p, q);
+    let above = selection_faults(
+        sizes,
+        losses,
+        path_sizes,
+        path_losses,
+        entries,
+        plus(p, 1),
+        q,
+    );
+    let below = selection_faults(
+        sizes,
+        losses,
+        path_sizes,
+        path_losses,
+        entries,
+        minus(p, 1),
+        q,
+    );
+    plus(here, plus(above, below))
+}
+
+// The mismatches at the penalties of every two models: the numbers k / 12 and k % 12 run through them.
+fn penalty_faults(
+    sizes: &[u64],
+    losses: &[u64],
+    path_sizes: &[u64],
+    path_losses: &[u64],
+    entries: usize,
+) -> u64 {
+    let mut faults = 0;
+    for k in 0..144usize {
+        faults = plus(
+            faults,
+            pair_faults(
+                sizes,
+                losses,
+                path_sizes,
+                path_losses,
+                entries,
+                k / 12,
+                k % 12,
+            ),
+        );
+    }
+    faults
+}
+
+// All comparisons for a list.
+fn check_list(sizes: &[u64], losses: &[u64]) -> Totals {
+    let n = sizes.len() as u64;
+    let mut path_sizes = [MARK; 12];
+    let mut path_losses = [MARK; 12];
+    let answer = build::build(sizes, losses, &mut path_sizes, &mut path_losses);
+    let made = history::after(history::empty(), answer, n);
+    let building = history::faults(sizes, losses, &path_sizes, &path_losses, made);
+    let selecting = penalty_faults(sizes, losses, &path_sizes, &path_losses, made.entries);
+    let listing = breakpoint_faults(&path_sizes, &path_losses, made.entries);
+    let appending = append_faults(sizes, losses);
+    Totals {
+        faults: plus(plus(building, selecting), plus(listing, appending)),
+        models: n,
+        entries: made.entries as u64,
+        tests: made.tests,
+    }
+}
+
+// The list i: 1 to 12 models of a kind.
+fn check_random(i: u64) -> Totals {
+    let kind = i % models::KINDS;
+    let x = start(1, i);
+    let sizes = models::sizes(kind, x);
+    let losses = models::losses(kind, next(x), &sizes, x % 3);
+    let from = (x % 12) as usize + 12;
+    check_list(&sizes[from..24], &losses[from..24])
+}
+
+fn sum(a: Totals, b: Totals) -> Totals {
+    Totals {
+        faults: plus(a.faults, b.faults),
+        models: plus(a.models, b.models),
+        entries: plus(a.entries, b.entries),
+        tests: plus(a.tests, b.tests),
+    }
+}
+
+fn check_many(lists: u64) -> Totals {
+    let mut totals = Totals {
+        faults: 0,
+        models: 0,
+        entries: 0,
+        tests: 0,
+    };
+    for i in 0..lists {
+        totals = sum(totals, check_random(i));
+    }
+    totals
+}
+
+pub fn run() {
+    let totals = check_many(20000);
+    print(
+        b"20000 lists: mismatches #, models #, entries #, tests #\n",
+        &[totals.faults, totals.models, totals.entries, totals.tests],
+    );
+}
