@@ -1,7 +1,7 @@
 // The figures of 01 for signals, the limits of each call, and the causes of its refusals, each alone and two together, where
-// the order of 01 decides. A line shows what is lent, with the causes that hold, 0 for none, what is answered, how many bytes of
-// scratch are not zero after the call, how many places of the scratch and of each other buffer it changed, and the first places
-// of each buffer after it.
+// the order of 01 decides. A line shows the first samples, what is lent, with the causes that hold, 0 for none, and what is
+// answered. Then come the number of scratch bytes that are not zero after the call, of all 32,000, the number of those that it
+// changed and of the places of each other buffer that it changed, and the first places of each buffer after it.
 
 use crate::calls;
 use crate::case;

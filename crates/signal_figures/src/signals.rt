@@ -30,8 +30,8 @@ const VALUES: [u64; 10] = [3, 5, 2, 7, 8, 8, 201, 2, 6, 65536];
 
 // Counts the places at which what is answered and what is in the buffers is not right.
 fn compare(case: &mut Case) {
-    for i in 10..200 {
-        if case[i] != case[i + 800] {
+    for i in case::REFUSAL..case::SAMPLES {
+        if case[i] != case[i + case::RIGHT] {
             case[case::MISMATCHES] = plus(case[case::MISMATCHES], 1);
         }
     }
@@ -46,6 +46,13 @@ fn check_path(case: &mut Case) {
     compare(case);
 }
 
+// Counts a split, its segments and its entries.
+fn count_split(case: &mut Case) {
+    case[case::SPLITS] = plus(case[case::SPLITS], 1);
+    case[case::ALL_SEGMENTS] = plus(case[case::ALL_SEGMENTS], case[case::SEGMENTS]);
+    case[case::ALL_ENTRIES] = plus(case[case::ALL_ENTRIES], case[case::ENTRIES]);
+}
+
 // Compares a split at the penalty p / q.
 fn check_split(case: &mut Case, p: u64, q: u64) {
     case[case::P] = p;
@@ -55,16 +62,14 @@ fn check_split(case: &mut Case, p: u64, q: u64) {
     segmentations::write_segmentation(case, number);
     calls::split(case);
     compare(case);
-    case[case::SPLITS] = plus(case[case::SPLITS], 1);
-    case[case::ALL_SEGMENTS] = plus(case[case::ALL_SEGMENTS], case[case::SEGMENTS]);
-    case[case::ALL_ENTRIES] = plus(case[case::ALL_ENTRIES], case[case::ENTRIES]);
+    count_split(case);
 }
 
-// Compares splits at a penalty, as it is and with both numbers 7 and 100 times as large, and at those with one less and one
-// more above the line.
+// Compares splits at a penalty, as it is and with both numbers 100 times as large, and at those with one less and one more
+// above the line.
 fn check_near(case: &mut Case, p: u64, q: u64) {
-    for i in 0..9 {
-        let scale = item(&[1, 7, 100], i / 3);
+    for i in 0..6 {
+        let scale = item(&[1, 100], i / 3);
         check_split(
             case,
             minus(plus(times(p, scale), i % 3), 1),

@@ -9,7 +9,7 @@ check-near-spec =
     tie.close
     (tie.spec
     (λ case₀ p q i₀ t6 case i. Unit)
-    (λ case₀ p q i₀ t6 case i. 9 - i)
+    (λ case₀ p q i₀ t6 case i. 6 - i)
     (λ c. search needs)
     (λ c. search needs)
     (λ c κs. search needs)
