@@ -3,7 +3,7 @@
 
 ghost use mathlib.Core.Path.{_≡_};
 ghost use Rattle.signal.specs.Outcome.{splitOutcome, splitOf};
-use signal::Segmented;
+use signal::SplitResult;
 
 // The segmentation of a signal at the penalty p / q, and the signal's path.
 #[no_mangle]
@@ -17,7 +17,7 @@ pub extern "C" fn foldwig_bench_split(
     path_sizes: &mut [u64],
     path_losses: &mut [u64],
     scratch: &mut [u8],
-) -> Segmented
+) -> SplitResult
     ensures { λ r. ⌜ splitOutcome r (now (starts .exit)) (now (levels .exit)) (now («path_sizes» .exit)) (now («path_losses» .exit)) (now (scratch .exit)) ≡ splitOf (now (samples .entry)) «max_segments» p q (now (starts .entry)) (now (levels .entry)) (now («path_sizes» .entry)) (now («path_losses» .entry)) (now (scratch .entry)) ⌝ }
 {
     signal::split(

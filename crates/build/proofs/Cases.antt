@@ -10,9 +10,9 @@ use borrow.Author.Tests.{le-leb, lt-leb}
 use borrow.Rule.Slice.PartMut.{putMid}
 use Rattle.path.specs.Model.{sizesOf, lossesOf}
 use Rattle.path.specs.Refusal.{Check, check, refusalOf}
-use Rattle.path.specs.Buffer.{laid}
-use Rattle.path.specs.Append.{Outcome, refused, filled}
-use Rattle.path.proofs.Held.{held-length, sizes-laid, losses-laid}
+use Rattle.path.specs.Buffer.{overwrittenTo}
+use Rattle.path.specs.Append.{PathOutcome, refused, filled}
+use Rattle.path.proofs.Held.{held-length, sizes-overwritten, losses-overwritten}
 use Rattle.path.proofs.Checks.{check-fails, check-passes, fails-early, passes-on, refusal-is}
 use Rattle.path.proofs.Cases.{refuses, accepts}
 use Rattle.build.specs.Build.{built, builtTests, countOf, listChecks, buildChecks, buildOf}
@@ -70,7 +70,7 @@ module _ (a b s₀ l₀ : List ℕ) where
 
   pub build-refusal : buildOf a b s₀ l₀ .refusal ≡ refusalOf (buildChecks a b (length s₀) (length l₀))
   unfolding buildOf
-  build-refusal = refusal-is (λ (o : Outcome). o .refusal) _ _ (refusalOf (buildChecks a b (length s₀) (length l₀))) refl refl
+  build-refusal = refusal-is (λ (o : PathOutcome). o .refusal) _ _ (refusalOf (buildChecks a b (length s₀) (length l₀))) refl refl
 
   pub build-filled : refusalOf (buildChecks a b (length s₀) (length l₀)) ≡ 0 → filled (built a b (countOf a b)) (builtTests a b (countOf a b)) (countOf a b) s₀ l₀ ≡ buildOf a b s₀ l₀
   unfolding buildOf
@@ -84,8 +84,8 @@ module _ (a b s₀ l₀ : List ℕ) where
       let path = built a b n in
       let ok = fillable a b (length s₀) (length l₀) h in
       let entries : length path ≡ k = held-length path s₀ l₀ s l k n (f .held) in
-      let sizes : putMid k (n - k) s (replicate (n - k) 0) ≡ laid (sizesOf path) n s₀ = sizes-laid path s₀ l₀ s l k n (f .held) (ok .1 .sizes-fit) (ok .1 .losses-fit) in
-      let losses : putMid k (n - k) l (replicate (n - k) 0) ≡ laid (lossesOf path) n l₀ = losses-laid path s₀ l₀ s l k n (f .held) (ok .1 .sizes-fit) (ok .1 .losses-fit) in
+      let sizes : putMid k (n - k) s (replicate (n - k) 0) ≡ overwrittenTo (sizesOf path) n s₀ = sizes-overwritten path s₀ l₀ s l k n (f .held) (ok .1 .sizes-fit) (ok .1 .losses-fit) in
+      let losses : putMid k (n - k) l (replicate (n - k) 0) ≡ overwrittenTo (lossesOf path) n l₀ = losses-overwritten path s₀ l₀ s l k n (f .held) (ok .1 .sizes-fit) (ok .1 .losses-fit) in
       let done : record { refusal = 0; entries = k; tests = t; sizes = s'; losses = l' } ≡ filled (built a b (countOf a b)) (builtTests a b (countOf a b)) (countOf a b) s₀ l₀ =
       rw (ok .0, x, y, sizes, losses, entries, f .counted) in
       done ∙ build-filled h

@@ -8,7 +8,7 @@ use lib.ListN.{length}
 use Rattle.path.specs.Model.{Model, modelAt, pathOf}
 use Rattle.path.specs.Update.{extended, testsMade}
 use Rattle.path.specs.Refusal.{Check, check, refusalOf, modelChecks, maxModels}
-use Rattle.path.specs.Append.{Outcome, refused, filled}
+use Rattle.path.specs.Append.{PathOutcome, refused, filled}
 
 -- the path of the first i models
 unfoldable pub built : List ℕ → List ℕ → ℕ → List Model
@@ -43,7 +43,7 @@ buildChecks sizes losses sizesRoom lossesRoom =
     ++ (check 9 (leb (countOf sizes losses) sizesRoom && leb (countOf sizes losses) lossesRoom) ∷ []))
 
 -- a build of two lists into two buffers
-unfoldable pub buildOf : List ℕ → List ℕ → List ℕ → List ℕ → Outcome
+unfoldable pub buildOf : List ℕ → List ℕ → List ℕ → List ℕ → PathOutcome
 buildOf sizes losses pathSizes pathLosses =
     cond (eqb (refusalOf (buildChecks sizes losses (length pathSizes) (length pathLosses))) 0)
     (filled (built sizes losses (countOf sizes losses)) (builtTests sizes losses (countOf sizes losses)) (countOf sizes losses) pathSizes pathLosses)

@@ -5,11 +5,11 @@ ghost use mathlib.Core.Path.{_≡_};
 ghost use Prim.Native.Nat.{max};
 ghost use lib.ListN.{length};
 ghost use Rattle.path.specs.Refusal.{refusalOf};
-ghost use Rattle.path.specs.Append.{outcome};
+ghost use Rattle.path.specs.Append.{pathOutcome};
 ghost use Rattle.build.specs.Build.{listChecks, buildChecks, buildOf};
 ghost use Rattle.build.specs.Fill.{Fillable, Filled};
-use path::Appended;
 use path::Kept;
+use path::PathResult;
 
 // The refusal of the first of so many models that is bad: 5, 6 or 7, or 0.
 fn list_refusal(sizes: &[u64], losses: &[u64], count: usize) -> u64
@@ -94,8 +94,8 @@ pub fn build(
     losses: &[u64],
     path_sizes: &mut [u64],
     path_losses: &mut [u64],
-) -> Appended
-    ensures { λ r. ⌜ outcome r (now («path_sizes» .exit)) (now («path_losses» .exit)) ≡ buildOf (now (sizes .entry)) (now (losses .entry)) (now («path_sizes» .entry)) (now («path_losses» .entry)) ⌝ }
+) -> PathResult
+    ensures { λ r. ⌜ pathOutcome r (now («path_sizes» .exit)) (now («path_losses» .exit)) ≡ buildOf (now (sizes .entry)) (now (losses .entry)) (now («path_sizes» .entry)) (now («path_losses» .entry)) ⌝ }
 {
     let refusal = build_refusal(sizes, losses, path_sizes.len(), path_losses.len());
     if refusal != 0 {
@@ -106,7 +106,7 @@ pub fn build(
     let end = made.entries;
     path::clear(&mut path_sizes[end..count]);
     path::clear(&mut path_losses[end..count]);
-    Appended {
+    PathResult {
         refusal: 0,
         entries: end,
         tests: made.tests,

@@ -12,14 +12,14 @@ use lib.ListN.{length, getD, drop, replicate}
 use lib.Seq.{take-at}
 use Rattle.path.specs.Model.{Model, model, sizesOf, lossesOf}
 use Rattle.path.specs.Refusal.{refusalOf, ordered, maxLoss, maxModels}
-use Rattle.path.specs.Buffer.{laid}
+use Rattle.path.specs.Buffer.{overwrittenTo}
 use Rattle.path.proofs.Paths.{length-sizes, length-losses}
 use Rattle.path.proofs.Order.{valid-parts, valid-whole}
 use Rattle.path.proofs.Checks.{refusal-is}
-use Rattle.path.proofs.Buffers.{path-laid, valid-laid}
+use Rattle.path.proofs.Buffers.{path-overwritten, valid-overwritten}
 use Rattle.select.specs.Penalty.{validPenalty, cost}
 use Rattle.select.specs.Select.{selected, selectOf}
-use Rattle.select.specs.declared.Selected.{Selected}
+use Rattle.select.specs.declared.SelectResult.{SelectResult}
 use Rattle.select.proofs.Walks.{accepted, select-refusal, select-done}
 use Rattle.hull.specs.Claims.{In, PathOfWinners, SmallestCheapest}
 use Rattle.hull.proofs.Winners.{winners-with-skipped}
@@ -33,7 +33,7 @@ use Rattle.least.proofs.LeastLosses.{least-low}
 use Rattle.least.proofs.Optimality.{least-of-all, least-reached, earliest-starts, segmentation-long}
 use Rattle.least.proofs.Chosen.{levels-are-own, starts-rise, starts-count, levels-count, chosen-loss}
 use Rattle.signal.specs.Signal.{sizeCount, modelOf, modelsUpTo, signalPath, segmentsAt, segmentation}
-use Rattle.signal.specs.Outcome.{SplitOutcome, PathOutcome, roomsOf, pathChecks, splitChecks, splitAt, signalPathOf, splitOf}
+use Rattle.signal.specs.Outcome.{SplitOutcome, SignalPathOutcome, lengthsOf, pathChecks, splitChecks, splitAt, signalPathOf, splitOf}
 use Rattle.signal.specs.Steps.{Solvable}
 use Rattle.signal.proofs.Inputs.{path-solvable, Splittable, splittable}
 use Rattle.signal.proofs.Paths.{path-few, path-ordered}
@@ -109,9 +109,9 @@ module _ (xs : List ℤ) (limit : ℕ) (sizes losses scratch : List ℕ) (bits :
         }
 
     -- in the buffers that the call leaves
-    pub path-in-buffers : PathIn xs (sizeCount xs limit) (laid (sizesOf path) (sizeCount xs limit) sizes) (laid (lossesOf path) (sizeCount xs limit) losses) (length path) p q
+    pub path-in-buffers : PathIn xs (sizeCount xs limit) (overwrittenTo (sizesOf path) (sizeCount xs limit) sizes) (overwrittenTo (lossesOf path) (sizeCount xs limit) losses) (length path) p q
     path-in-buffers =
-        record { one = some; is = path-laid path (sizeCount xs limit) sizes losses; valid = valid-laid path (sizeCount xs limit) sizes losses order few; penalty = v }
+        record { one = some; is = path-overwritten path (sizeCount xs limit) sizes losses; valid = valid-overwritten path (sizeCount xs limit) sizes losses order few; penalty = v }
 
 -- an accepted split, taken apart
 module _ (xs : List ℤ) (limit p q : ℕ) (starts : List ℕ) (levels : List ℤ) (sizes losses scratch : List ℕ) where
@@ -121,12 +121,12 @@ module _ (xs : List ℤ) (limit p q : ℕ) (starts : List ℕ) (levels : List �
   abbrev count : ℕ
   count = sizeCount xs limit
 
-  pub split-refusal : result .refusal ≡ refusalOf (splitChecks (length xs) limit p q (length starts) (length levels) (roomsOf sizes losses scratch))
+  pub split-refusal : result .refusal ≡ refusalOf (splitChecks (length xs) limit p q (length starts) (length levels) (lengthsOf sizes losses scratch))
   unfolding splitOf
-  split-refusal = refusal-is (λ (o : SplitOutcome). o .refusal) _ _ (refusalOf (splitChecks (length xs) limit p q (length starts) (length levels) (roomsOf sizes losses scratch))) refl refl
+  split-refusal = refusal-is (λ (o : SplitOutcome). o .refusal) _ _ (refusalOf (splitChecks (length xs) limit p q (length starts) (length levels) (lengthsOf sizes losses scratch))) refl refl
 
   module _ (h : result .refusal ≡ 0) where
-    none-refused : refusalOf (splitChecks (length xs) limit p q (length starts) (length levels) (roomsOf sizes losses scratch)) ≡ 0
+    none-refused : refusalOf (splitChecks (length xs) limit p q (length starts) (length levels) (lengthsOf sizes losses scratch)) ≡ 0
     none-refused = sym split-refusal ∙ h
 
     pub split-is : result ≡ splitAt xs (signalPath xs count) count p q starts levels sizes losses scratch
@@ -217,37 +217,37 @@ split-select-claim xs limit p q starts levels sizes losses scratch bits h p' q' 
     let path = signalPath xs (sizeCount xs limit) in
     let ok = asked xs limit p q starts levels sizes losses scratch h .solvable in
     rw (split-is xs limit p q starts levels sizes losses scratch h)
-    (selects-smallest xs (sizeCount xs limit) (laid (sizesOf path) (sizeCount xs limit) sizes) (laid (lossesOf path) (sizeCount xs limit) losses) (length path) p' q' (path-in-buffers xs limit sizes losses scratch bits ok p' q' v))
+    (selects-smallest xs (sizeCount xs limit) (overwrittenTo (sizesOf path) (sizeCount xs limit) sizes) (overwrittenTo (lossesOf path) (sizeCount xs limit) losses) (length path) p' q' (path-in-buffers xs limit sizes losses scratch bits ok p' q' v))
 
 pub same-split-claim : SameSplitClaim
 unfolding splitOf
 same-split-claim xs limit p q p' q' starts levels sizes losses scratch v v' e =
     let path = signalPath xs (sizeCount xs limit) in
-    let same : segmentsAt path p q ≡ segmentsAt path p' q' = ap (λ (r : Selected). r .size) (same-penalty-claim (sizesOf path) (lossesOf path) (length path) p q p' q' v v' e) in
+    let same : segmentsAt path p q ≡ segmentsAt path p' q' = ap (λ (r : SelectResult). r .size) (same-penalty-claim (sizesOf path) (lossesOf path) (length path) p q p' q' v v' e) in
     rw (v, v', splitAt, same)
 
 pub split-path-claim : SplitPathClaim
 split-path-claim xs limit p q starts levels sizes losses scratch h =
-    rw (split-is xs limit p q starts levels sizes losses scratch h, path-laid (signalPath xs (sizeCount xs limit)) (sizeCount xs limit) sizes losses) (path-of-winners xs (sizeCount xs limit))
+    rw (split-is xs limit p q starts levels sizes losses scratch h, path-overwritten (signalPath xs (sizeCount xs limit)) (sizeCount xs limit) sizes losses) (path-of-winners xs (sizeCount xs limit))
 
 -- a path call by its checks
 module _ (xs : List ℤ) (limit : ℕ) (sizes losses scratch : List ℕ) where
-  path-refusal : signalPathOf xs limit sizes losses scratch .refusal ≡ refusalOf (pathChecks (length xs) limit (roomsOf sizes losses scratch))
+  path-refusal : signalPathOf xs limit sizes losses scratch .refusal ≡ refusalOf (pathChecks (length xs) limit (lengthsOf sizes losses scratch))
   unfolding signalPathOf
-  path-refusal = refusal-is (λ (o : PathOutcome). o .refusal) _ _ (refusalOf (pathChecks (length xs) limit (roomsOf sizes losses scratch))) refl refl
+  path-refusal = refusal-is (λ (o : SignalPathOutcome). o .refusal) _ _ (refusalOf (pathChecks (length xs) limit (lengthsOf sizes losses scratch))) refl refl
 
   module _ (h : signalPathOf xs limit sizes losses scratch .refusal ≡ 0) where
     pub path-solved : Solvable xs limit sizes losses scratch
     path-solved = path-solvable xs limit sizes losses scratch (sym path-refusal ∙ h)
 
     -- what an accepted one leaves
-    abbrev left : PathOutcome
+    abbrev left : SignalPathOutcome
     left =
         record {
           refusal = 0;
           entries = length (signalPath xs (sizeCount xs limit));
-          sizes = laid (sizesOf (signalPath xs (sizeCount xs limit))) (sizeCount xs limit) sizes;
-          losses = laid (lossesOf (signalPath xs (sizeCount xs limit))) (sizeCount xs limit) losses;
+          sizes = overwrittenTo (sizesOf (signalPath xs (sizeCount xs limit))) (sizeCount xs limit) sizes;
+          losses = overwrittenTo (lossesOf (signalPath xs (sizeCount xs limit))) (sizeCount xs limit) losses;
           scratch = replicate (length scratch) 0;
         }
 
@@ -257,18 +257,18 @@ module _ (xs : List ℤ) (limit : ℕ) (sizes losses scratch : List ℕ) where
 
 pub signal-path-claim : SignalPathClaim
 signal-path-claim xs limit sizes losses scratch h =
-    rw (path-is xs limit sizes losses scratch h, path-laid (signalPath xs (sizeCount xs limit)) (sizeCount xs limit) sizes losses) (path-of-winners xs (sizeCount xs limit))
+    rw (path-is xs limit sizes losses scratch h, path-overwritten (signalPath xs (sizeCount xs limit)) (sizeCount xs limit) sizes losses) (path-of-winners xs (sizeCount xs limit))
 
 pub signal-select-claim : SignalSelectClaim
 signal-select-claim xs limit sizes losses scratch bits h p q v =
     let path = signalPath xs (sizeCount xs limit) in
     let ok = path-solved xs limit sizes losses scratch h in
     rw (path-is xs limit sizes losses scratch h)
-    (selects-smallest xs (sizeCount xs limit) (laid (sizesOf path) (sizeCount xs limit) sizes) (laid (lossesOf path) (sizeCount xs limit) losses) (length path) p q (path-in-buffers xs limit sizes losses scratch bits ok p q v))
+    (selects-smallest xs (sizeCount xs limit) (overwrittenTo (sizesOf path) (sizeCount xs limit) sizes) (overwrittenTo (lossesOf path) (sizeCount xs limit) losses) (length path) p q (path-in-buffers xs limit sizes losses scratch bits ok p q v))
 
 pub signal-order-claim : SignalOrderClaim
 signal-order-claim =
     record {
-      signal-path = λ xs limit sizes losses scratch. in-order (pathChecks (length xs) limit (roomsOf sizes losses scratch)) refl (signalPathOf xs limit sizes losses scratch .refusal) (path-refusal xs limit sizes losses scratch);
-      split = λ xs limit p q starts levels sizes losses scratch. in-order (splitChecks (length xs) limit p q (length starts) (length levels) (roomsOf sizes losses scratch)) refl (splitOf xs limit p q starts levels sizes losses scratch .refusal) (split-refusal xs limit p q starts levels sizes losses scratch);
+      signal-path = λ xs limit sizes losses scratch. in-order (pathChecks (length xs) limit (lengthsOf sizes losses scratch)) refl (signalPathOf xs limit sizes losses scratch .refusal) (path-refusal xs limit sizes losses scratch);
+      split = λ xs limit p q starts levels sizes losses scratch. in-order (splitChecks (length xs) limit p q (length starts) (length levels) (lengthsOf sizes losses scratch)) refl (splitOf xs limit p q starts levels sizes losses scratch .refusal) (split-refusal xs limit p q starts levels sizes losses scratch);
     }

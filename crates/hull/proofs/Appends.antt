@@ -12,10 +12,10 @@ use borrow.Author.Tests.{ne-eqb}
 use Rattle.path.specs.Model.{Model, pathOf, sizesOf, lossesOf}
 use Rattle.path.specs.Update.{extended, testsMade}
 use Rattle.path.specs.Refusal.{refusalOf, ordered, validPath}
-use Rattle.path.specs.Buffer.{laid}
+use Rattle.path.specs.Buffer.{overwrittenTo}
 use Rattle.path.specs.Append.{appendChecks, appendOf}
 use Rattle.path.proofs.Order.{valid-whole}
-use Rattle.path.proofs.Buffers.{path-laid, valid-laid}
+use Rattle.path.proofs.Buffers.{path-overwritten, valid-overwritten}
 use Rattle.path.proofs.Cases.{append-refused, append-filled, appendable}
 use Rattle.path.proofs.Updates.{extended-ordered}
 use Rattle.hull.specs.History.{State, emptyState, afterAppend, appends, pathAt}
@@ -34,8 +34,8 @@ next x m = afterAppend m x (appendOf (x .sizes) (x .losses) (x .entries) m)
 abbrev pub grown : State → Model → State
 grown x m =
     record {
-      sizes = laid (sizesOf (extended (pathAt x) m)) (x .entries) (x .sizes);
-      losses = laid (lossesOf (extended (pathAt x) m)) (x .entries) (x .losses);
+      sizes = overwrittenTo (sizesOf (extended (pathAt x) m)) (x .entries) (x .sizes);
+      losses = overwrittenTo (lossesOf (extended (pathAt x) m)) (x .entries) (x .losses);
       entries = length (extended (pathAt x) m);
       tests = x .tests + testsMade (pathAt x) m;
       models = m ∷ x .models;
@@ -52,7 +52,7 @@ refused-stays x m h =
 
 -- the grown state holds the path after the model
 pub grown-path : (x : State) (m : Model) → pathAt (grown x m) ≡ extended (pathAt x) m
-grown-path x m = path-laid (extended (pathAt x) m) (x .entries) (x .sizes) (x .losses)
+grown-path x m = path-overwritten (extended (pathAt x) m) (x .entries) (x .sizes) (x .losses)
 
 -- what every state of a history has
 pub record Standing (x : State) : Type 0 where
@@ -74,7 +74,7 @@ standing-empty s l =
 pub grown-valid : (x : State) (m : Model) → refusalAt x m ≡ 0 → validPath (grown x m .sizes) (grown x m .losses) (grown x m .entries) ≡ true
 grown-valid x m e =
     let a = appendable (x .sizes) (x .losses) (x .entries) m e in
-    valid-laid (extended (pathAt x) m) (x .entries) (x .sizes) (x .losses) (extended-ordered (pathAt x) m (a .input .valid .order) (a .input .passes)) (a .room .few)
+    valid-overwritten (extended (pathAt x) m) (x .entries) (x .sizes) (x .losses) (extended-ordered (pathAt x) m (a .input .valid .order) (a .input .passes)) (a .room .few)
 
 -- an accepted append keeps a state standing
 standing-grown : (x : State) (m : Model) → Standing x → refusalAt x m ≡ 0 → Standing (grown x m)

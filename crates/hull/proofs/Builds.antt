@@ -8,10 +8,10 @@ use lib.ListN.{length}
 use Rattle.path.specs.Model.{Model, modelAt, pathOf, sizesOf, lossesOf}
 use Rattle.path.specs.Update.{kept, extended}
 use Rattle.path.specs.Refusal.{validPath}
-use Rattle.path.specs.Append.{Outcome}
+use Rattle.path.specs.Append.{PathOutcome}
 use Rattle.path.proofs.Paths.{length-path, length-sizes, length-losses}
 use Rattle.path.proofs.Order.{Passes}
-use Rattle.path.proofs.Buffers.{length-laid, path-laid}
+use Rattle.path.proofs.Buffers.{length-overwritten, path-overwritten}
 use Rattle.path.proofs.Cases.{append-accepted}
 use Rattle.path.proofs.Updates.{kept-few}
 use Rattle.build.specs.Build.{built, builtTests, countOf}
@@ -19,7 +19,7 @@ use Rattle.build.specs.Fill.{Fillable}
 use Rattle.build.proofs.Lists.{model-ready, fillable}
 use Rattle.build.proofs.Cases.{build-refusal, build-filled}
 use Rattle.hull.specs.History.{State, emptyState, appends, pathAt}
-use Rattle.hull.specs.Claims.{inTurn, BuildClaim}
+use Rattle.hull.specs.Claims.{modelsFrom, BuildClaim}
 use Rattle.hull.proofs.Appends.{refusalAt, next, grown, accepted-grows, grown-path, grown-valid, standing-empty}
 
 module _ (a b s l : List ℕ) where
@@ -78,12 +78,12 @@ module _ (a b s l : List ℕ) where
             tests = rw (h .tests, h .path);
             models = ap (λ (r : List Model). new ∷ r) (h .models);
             few = omega (arith, kept-fits);
-            sizes-long = length-laid (sizesOf path) (x .entries) (x .sizes) (omega (arith, length-sizes path, kept-fits, h .sizes-long, ok .sizes-fit)) (omega (arith, h .few, h .sizes-long, ok .sizes-fit)) ∙ h .sizes-long;
-            losses-long = length-laid (lossesOf path) (x .entries) (x .losses) (omega (arith, length-losses path, kept-fits, h .losses-long, ok .losses-fit)) (omega (arith, h .few, h .losses-long, ok .losses-fit)) ∙ h .losses-long;
+            sizes-long = length-overwritten (sizesOf path) (x .entries) (x .sizes) (omega (arith, length-sizes path, kept-fits, h .sizes-long, ok .sizes-fit)) (omega (arith, h .few, h .sizes-long, ok .sizes-fit)) ∙ h .sizes-long;
+            losses-long = length-overwritten (lossesOf path) (x .entries) (x .losses) (omega (arith, length-losses path, kept-fits, h .losses-long, ok .losses-fit)) (omega (arith, h .few, h .losses-long, ok .losses-fit)) ∙ h .losses-long;
           }
 
     -- the appends of the models from i on reach the end
-    reached-all : (m i : ℕ) (x : State) → i + m ≡ length a → Reached x i → Reached (appends x (inTurn a b i m)) (length a)
+    reached-all : (m i : ℕ) (x : State) → i + m ≡ length a → Reached x i → Reached (appends x (modelsFrom a b i m)) (length a)
     unfolding appends
     reached-all zero i x e h = let f : i ≡ length a = omega arith in rw f at h
     reached-all (suc m) i x e h =
@@ -91,7 +91,7 @@ module _ (a b s l : List ℕ) where
         reached-all m (suc i) (next x (modelAt a b i)) (omega arith) (rw (accepted-grows x (modelAt a b i) (next-accepted x i h inside)) (reached-more x i h inside))
 
     -- all appends in turn
-    pub reached : (n : ℕ) → n ≡ length a → Reached (appends (emptyState s l) (inTurn a b 0 n)) n
+    pub reached : (n : ℕ) → n ≡ length a → Reached (appends (emptyState s l) (modelsFrom a b 0 n)) n
     reached n e = rw e (reached-all (length a) 0 (emptyState s l) (omega arith) reached-none)
 
 pub build-claim : BuildClaim
@@ -99,12 +99,12 @@ build-claim a b s l e =
     let checks = sym (build-refusal a b s l) ∙ e in
     let f = fillable a b (length s) (length l) checks in
     let n = countOf a b in
-    let x = appends (emptyState s l) (inTurn a b 0 n) in
+    let x = appends (emptyState s l) (modelsFrom a b 0 n) in
     let h = reached a b s l (f .1) n (f .0) in
     let done = build-filled a b s l checks in
     record {
-      path = h .path ∙ sym (path-laid (built a b n) n s l) ∙ ap (λ (o : Outcome). pathOf (o .sizes) (o .losses) (o .entries)) done;
-      entries = sym (length-path (x .sizes) (x .losses) (x .entries)) ∙ ap length (h .path) ∙ ap (λ (o : Outcome). o .entries) done;
-      tests = h .tests ∙ ap (λ (o : Outcome). o .tests) done;
+      path = h .path ∙ sym (path-overwritten (built a b n) n s l) ∙ ap (λ (o : PathOutcome). pathOf (o .sizes) (o .losses) (o .entries)) done;
+      entries = sym (length-path (x .sizes) (x .losses) (x .entries)) ∙ ap length (h .path) ∙ ap (λ (o : PathOutcome). o .entries) done;
+      tests = h .tests ∙ ap (λ (o : PathOutcome). o .tests) done;
       models = h .models;
     }

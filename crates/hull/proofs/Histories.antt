@@ -13,7 +13,7 @@ use Rattle.path.specs.Model.{Model}
 use Rattle.path.specs.Refusal.{refusalOf, ordered}
 use Rattle.path.proofs.Paths.{length-path}
 use Rattle.path.proofs.Order.{valid-parts}
-use Rattle.path.proofs.Buffers.{path-laid, valid-laid}
+use Rattle.path.proofs.Buffers.{path-overwritten, valid-overwritten}
 use Rattle.build.specs.Build.{built, countOf, buildChecks, buildOf}
 use Rattle.build.proofs.Lists.{fillable}
 use Rattle.build.proofs.Cases.{build-refused, build-filled}
@@ -21,7 +21,7 @@ use Rattle.select.specs.Penalty.{validPenalty}
 use Rattle.select.specs.Select.{selected, selectOf}
 use Rattle.select.proofs.Walks.{accepted, select-refusal, select-done}
 use Rattle.hull.specs.History.{State, Start, emptyState, afterBuild, modelsOf, begin, appends, history, pathAt}
-use Rattle.hull.specs.Claims.{SmallestCheapest, inTurn, answer, HistoryClaim, SelectClaim}
+use Rattle.hull.specs.Claims.{SmallestCheapest, modelsFrom, answer, HistoryClaim, SelectClaim}
 use Rattle.hull.proofs.Winners.{winners}
 use Rattle.hull.proofs.Counts.{counted-some, some-entries}
 use Rattle.hull.proofs.Selections.{selected-smallest}
@@ -33,13 +33,13 @@ standing-built : (a b s l : List ℕ) → refusalOf (buildChecks a b (length s) 
 standing-built a b s l e =
     let n = countOf a b in
     let f = fillable a b (length s) (length l) e in
-    let x = appends (emptyState s l) (inTurn a b 0 n) in
+    let x = appends (emptyState s l) (modelsFrom a b 0 n) in
     let r = reached a b s l (f .1) n (f .0) in
-    let h = standing-appends (inTurn a b 0 n) (emptyState s l) (standing-empty s l) in
+    let h = standing-appends (modelsFrom a b 0 n) (emptyState s l) (standing-empty s l) in
     let v = valid-parts (x .sizes) (x .losses) (x .entries) (h .valid) in
-    let path = r .path ∙ sym (path-laid (built a b n) n s l) in
+    let path = r .path ∙ sym (path-overwritten (built a b n) n s l) in
     rw (← build-filled a b s l e) record {
-      valid = valid-laid (built a b n) n s l (ap ordered (sym (r .path)) ∙ v .order) (omega (arith, length-path (x .sizes) (x .losses) (x .entries), ap length (r .path), v .few));
+      valid = valid-overwritten (built a b n) n s l (ap ordered (sym (r .path)) ∙ v .order) (omega (arith, length-path (x .sizes) (x .losses) (x .entries), ap length (r .path), v .few));
       sound = rw (← path, ← (r .models)) (h .sound);
       counted = rw (← path, ← (r .models), ← (r .tests)) (h .counted);
     }

@@ -10,10 +10,10 @@ use native.Mathlib.Numerals.{add-one}
 use native.Mathlib.Omega.{arith}
 use lib.ListN.{length}
 use Rattle.path.specs.Model.{Model, modelAt, pathOf}
-use Rattle.path.specs.Update.{breakpoint, breakpointsOf, holds, kept, extended}
-use Rattle.path.specs.Append.{Outcome, appendOf}
+use Rattle.path.specs.Update.{breakpoint, pathBreakpoints, holds, kept, extended}
+use Rattle.path.specs.Append.{PathOutcome, appendOf}
 use Rattle.path.proofs.Paths.{kept-front, keeps-first, keeps-all, drops-last, places-agree}
-use Rattle.path.proofs.Buffers.{path-laid}
+use Rattle.path.proofs.Buffers.{path-overwritten}
 use Rattle.path.proofs.Cases.{append-refusal, append-filled}
 use Rattle.hull.specs.Claims.{testAt, UpdateClaim}
 
@@ -46,8 +46,8 @@ module _ (s l : List ℕ) (m : Model) where
           }
 
   -- the breakpoints after m follows k entries
-  one-more-breakpoint : (k : ℕ) → 1 ≤ k → breakpointsOf (m ∷ pathOf s l k) ≡ breakpoint (modelAt s l (k - 1)) m ∷ breakpointsOf (pathOf s l k)
-  unfolding pathOf breakpointsOf
+  one-more-breakpoint : (k : ℕ) → 1 ≤ k → pathBreakpoints (m ∷ pathOf s l k) ≡ breakpoint (modelAt s l (k - 1)) m ∷ pathBreakpoints (pathOf s l k)
+  unfolding pathOf pathBreakpoints
   one-more-breakpoint zero h = absurd (not-suc-le-zero h)
   one-more-breakpoint (suc k) h = let e : suc k - 1 ≡ k = omega arith in rw e
 
@@ -71,13 +71,13 @@ update-claim s l n m r =
     let w = scanned s l m n in
     let done = append-filled s l (suc n) m (sym (append-refusal s l (suc n) m) ∙ r) in
     let path : pathOf (o .sizes) (o .losses) (k + 1) ≡ m ∷ pathOf s l k =
-    rw (add-one k, done) (path-laid (extended old m) (suc n) s l ∙ ap (λ (t : List Model). m ∷ t) (kept-front s l m (suc n))) in
+    rw (add-one k, done) (path-overwritten (extended old m) (suc n) s l ∙ ap (λ (t : List Model). m ∷ t) (kept-front s l m (suc n))) in
     record {
       some-kept = w .some-kept;
       kept-passes = w .kept-passes;
       later-fail = w .later-fail;
-      entries-grow = ap (λ (o : Outcome). o .entries) done ∙ sym (add-one k);
+      entries-grow = ap (λ (o : PathOutcome). o .entries) done ∙ sym (add-one k);
       entries-stay = others-are s l (o .sizes) (o .losses) m k path;
       new-follows = last-is s l (o .sizes) (o .losses) m k path;
-      breakpoints-are = ap breakpointsOf path ∙ one-more-breakpoint s l m k (w .some-kept .0);
+      breakpoints-are = ap pathBreakpoints path ∙ one-more-breakpoint s l m k (w .some-kept .0);
     }

@@ -7,13 +7,13 @@ use mathlib.Core.List.{List, [], _∷_}
 use Prim.Native.Nat.{ℕ, zero, suc, _+_, _*_, _-_, _≤_, _<_}
 use lib.ListN.{length}
 use Rattle.path.specs.Model.{Model, model, modelAt, pathOf}
-use Rattle.path.specs.Update.{breakpoint, breakpointsOf, holds, kept}
+use Rattle.path.specs.Update.{breakpoint, pathBreakpoints, holds, kept}
 use Rattle.path.specs.Refusal.{Check}
 use Rattle.path.specs.Append.{appendChecks, appendOf}
 use Rattle.build.specs.Build.{countOf, buildChecks, buildOf}
 use Rattle.select.specs.Penalty.{validPenalty, cost}
 use Rattle.select.specs.Select.{selectChecks, selectOf}
-use Rattle.select.specs.Breakpoints.{breakpointChecks, breakpointsIn}
+use Rattle.select.specs.Breakpoints.{breakpointChecks, breakpointsOf}
 use Rattle.hull.specs.History.{State, Start, emptyState, appends, history, pathAt, modelsOf}
 
 -- a model is among others
@@ -46,16 +46,16 @@ abbrev pub HistoryClaim : Type 0
 HistoryClaim = (start : Start) (ms : List Model) (s l : List ℕ) → PathOfWinners (pathAt (history start ms s l)) (history start ms s l .models) × TestsCounted (history start ms s l)
 
 -- m models of two lists from model i on, in their order
-abbrev pub inTurn : List ℕ → List ℕ → ℕ → ℕ → List Model
-inTurn sizes losses i zero = []
-inTurn sizes losses i (suc m) = modelAt sizes losses i ∷ inTurn sizes losses (suc i) m
+abbrev pub modelsFrom : List ℕ → List ℕ → ℕ → ℕ → List Model
+modelsFrom sizes losses i zero = []
+modelsFrom sizes losses i (suc m) = modelAt sizes losses i ∷ modelsFrom sizes losses (suc i) m
 
 -- what an accepted build gives: the path and the tests of its appends in turn, all of them accepted
 pub record SameAsAppends (sizes losses s l : List ℕ) : Type 0 where
-  pub path : pathAt (appends (emptyState s l) (inTurn sizes losses 0 (countOf sizes losses))) ≡ pathOf (buildOf sizes losses s l .sizes) (buildOf sizes losses s l .losses) (buildOf sizes losses s l .entries)
-  pub entries : appends (emptyState s l) (inTurn sizes losses 0 (countOf sizes losses)) .entries ≡ buildOf sizes losses s l .entries
-  pub tests : appends (emptyState s l) (inTurn sizes losses 0 (countOf sizes losses)) .tests ≡ buildOf sizes losses s l .tests
-  pub models : appends (emptyState s l) (inTurn sizes losses 0 (countOf sizes losses)) .models ≡ modelsOf sizes losses
+  pub path : pathAt (appends (emptyState s l) (modelsFrom sizes losses 0 (countOf sizes losses))) ≡ pathOf (buildOf sizes losses s l .sizes) (buildOf sizes losses s l .losses) (buildOf sizes losses s l .entries)
+  pub entries : appends (emptyState s l) (modelsFrom sizes losses 0 (countOf sizes losses)) .entries ≡ buildOf sizes losses s l .entries
+  pub tests : appends (emptyState s l) (modelsFrom sizes losses 0 (countOf sizes losses)) .tests ≡ buildOf sizes losses s l .tests
+  pub models : appends (emptyState s l) (modelsFrom sizes losses 0 (countOf sizes losses)) .models ≡ modelsOf sizes losses
 
 -- every accepted build does so
 abbrev pub BuildClaim : Type 0
@@ -89,7 +89,7 @@ pub record Updated (s l : List ℕ) (n : ℕ) (m : Model) (I : ℕ) : Type 0 whe
   pub entries-grow : appendOf s l (suc n) m .entries ≡ I + 1
   pub entries-stay : (i : ℕ) → i < I → modelAt (appendOf s l (suc n) m .sizes) (appendOf s l (suc n) m .losses) i ≡ modelAt s l i
   pub new-follows : modelAt (appendOf s l (suc n) m .sizes) (appendOf s l (suc n) m .losses) I ≡ m
-  pub breakpoints-are : breakpointsOf (pathOf (appendOf s l (suc n) m .sizes) (appendOf s l (suc n) m .losses) (I + 1)) ≡ breakpoint (modelAt s l (I - 1)) m ∷ breakpointsOf (pathOf s l I)
+  pub breakpoints-are : pathBreakpoints (pathOf (appendOf s l (suc n) m .sizes) (appendOf s l (suc n) m .losses) (I + 1)) ≡ breakpoint (modelAt s l (I - 1)) m ∷ pathBreakpoints (pathOf s l I)
 
 -- they hold on every accepted append to a path that has an entry
 abbrev pub UpdateClaim : Type 0
@@ -117,4 +117,4 @@ pub record OrderClaim : Type 0 where
   pub append : (s l : List ℕ) (n : ℕ) (m : Model) → AnswersInOrder (appendChecks s l n m) (appendOf s l n m .refusal)
   pub build : (sizes losses s l : List ℕ) → AnswersInOrder (buildChecks sizes losses (length s) (length l)) (buildOf sizes losses s l .refusal)
   pub select : (s l : List ℕ) (n p q : ℕ) → AnswersInOrder (selectChecks s l n p q) (selectOf s l n p q .refusal)
-  pub breakpoints : (s l : List ℕ) (n : ℕ) (a b : List ℕ) → AnswersInOrder (breakpointChecks s l n (length a) (length b)) (breakpointsIn s l n a b .refusal)
+  pub breakpoints : (s l : List ℕ) (n : ℕ) (a b : List ℕ) → AnswersInOrder (breakpointChecks s l n (length a) (length b)) (breakpointsOf s l n a b .refusal)

@@ -5,7 +5,7 @@ use mathlib.Core.List.{List, [], _∷_}
 use Prim.Native.Nat.{ℕ, _+_}
 use lib.Dec.{eqb}
 use Rattle.path.specs.Model.{Model, pathOf}
-use Rattle.path.specs.Append.{Outcome, appendOf}
+use Rattle.path.specs.Append.{PathOutcome, appendOf}
 use Rattle.build.specs.Build.{countOf, buildOf}
 
 -- what a caller has: the buffers, the entries that the last accepted call gave, the tests reported so far, and the models
@@ -27,14 +27,14 @@ abbrev pub emptyState : List ℕ → List ℕ → State
 emptyState sizes losses = record { sizes = sizes; losses = losses; entries = 0; tests = 0; models = [] }
 
 -- after a build: its path, where it was accepted, and else the empty path as before
-abbrev pub afterBuild : List Model → State → Outcome → State
+abbrev pub afterBuild : List Model → State → PathOutcome → State
 afterBuild models x o =
     cond (eqb (o .refusal) 0)
     (record { sizes = o .sizes; losses = o .losses; entries = o .entries; tests = o .tests; models = models })
     (record { sizes = o .sizes; losses = o .losses; entries = x .entries; tests = x .tests + o .tests; models = x .models })
 
 -- after an append of m: one more model, where it was accepted
-abbrev pub afterAppend : Model → State → Outcome → State
+abbrev pub afterAppend : Model → State → PathOutcome → State
 afterAppend m x o =
     cond (eqb (o .refusal) 0)
     (record { sizes = o .sizes; losses = o .losses; entries = o .entries; tests = x .tests + o .tests; models = m ∷ x .models })

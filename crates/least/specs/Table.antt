@@ -6,8 +6,8 @@ use mathlib.Core.List.{List}
 use lib.IntN.{ℤ}
 use lib.ListN.{length, getD, take}
 use Rattle.layout.specs.Item.{item}
-use Rattle.segment.specs.Prefix.{Ready}
-use Rattle.least.specs.Segmentation.{joined, lastStart, least, startsOf, chosen}
+use Rattle.segment.specs.Prefix.{Summed}
+use Rattle.least.specs.Segmentation.{lossWithLast, lastStart, least, startsOf, chosen}
 
 -- The number of scratch bytes that the table of starts takes: 31 rows of 512 starts of two bytes.
 abbrev pub scratchLen : ℕ
@@ -32,7 +32,7 @@ rowOf row i = getD row i 0
 -- What a search for the last segment's start asks for: the prefix sums, a start between low and to, and a row of losses that are
 -- small enough to add to.
 pub record PickFrom (xs : List ℤ) (sums squares row : List ℕ) (low to : ℕ) : Type 0 where
-  pub ready : Ready xs sums squares
+  pub ready : Summed xs sums squares
   pub some : low < to
   pub within : to ≤ length xs
   pub len-row : length row ≡ 513
@@ -41,11 +41,11 @@ pub record PickFrom (xs : List ℤ) (sums squares row : List ℕ) (low to : ℕ)
 -- What such a search finds: the earliest of the best starts, and the loss with it.
 pub record Picked (xs : List ℤ) (row : List ℕ) (low to loss start : ℕ) : Type 0 where
   pub start-is : start ≡ lastStart xs (rowOf row) low to
-  pub loss-is : loss ≡ joined xs (rowOf row) to start
+  pub loss-is : loss ≡ lossWithLast xs (rowOf row) to start
 
 -- What the step from m + 1 to m + 2 segments asks for.
 pub record NextFrom (xs : List ℤ) (sums squares row scratch : List ℕ) (m : ℕ) : Type 0 where
-  pub ready : Ready xs sums squares
+  pub ready : Summed xs sums squares
   pub few : m < 31
   pub more : m + 1 < length xs
   pub len-row : length row ≡ 513
@@ -60,7 +60,7 @@ pub record NextRow (xs : List ℤ) (m : ℕ) (row before after : List ℕ) : Typ
 
 -- What the fill of all rows for 1 to k segments asks for.
 pub record RowsFrom (xs : List ℤ) (sums squares row losses scratch : List ℕ) (k : ℕ) : Type 0 where
-  pub ready : Ready xs sums squares
+  pub ready : Summed xs sums squares
   pub some : 0 < k
   pub few : k ≤ 32
   pub enough : k ≤ length xs
@@ -104,5 +104,5 @@ pub record LevelsFrom (xs : List ℤ) (starts : List ℕ) (levels : List ℤ) (k
 
 -- The same with the prefix sums at hand.
 pub record LevelsReady (xs : List ℤ) (sums squares starts : List ℕ) (levels : List ℤ) (k : ℕ) : Type 0 where
-  pub ready : Ready xs sums squares
+  pub ready : Summed xs sums squares
   pub asked : LevelsFrom xs starts levels k

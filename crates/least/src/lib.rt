@@ -4,7 +4,7 @@ ghost use mathlib.Core.Path.{_≡_};
 ghost use mathlib.Core.List.{_++_};
 ghost use Prim.Native.Nat.{min, _-_};
 ghost use lib.ListN.{length, drop};
-ghost use Rattle.segment.specs.Prefix.{Ready};
+ghost use Rattle.segment.specs.Prefix.{Summed};
 ghost use Rattle.least.specs.Segmentation.{startsOf, levelsOf, chosen};
 ghost use Rattle.least.specs.Table.{PickFrom, Picked, NextFrom, NextRow, RowIs, RowsFrom, Table, TableFrom, TraceFrom, LevelsFrom, LevelsReady};
 use layout::get_u16;
@@ -86,7 +86,7 @@ fn next_row(
 
 // The losses of one segment over the first j samples, for each j.
 fn first_row(samples: &[i16], sums: &[u32], squares: &[u64], row: &mut [u64])
-    requires { ⌜ Ready (now samples) (now sums) (now squares) × (length (now row) ≡ 513) ⌝ }
+    requires { ⌜ Summed (now samples) (now sums) (now squares) × (length (now row) ≡ 513) ⌝ }
     ensures { λ r. ⌜ RowIs (now (samples .entry)) 0 (now (row .exit)) ⌝ }
 {
     let n = samples.len();

@@ -11,7 +11,7 @@ use lib.ListN.{getD, length}
 use borrow.Author.Tests.{ltb-true, leb-true, le-leb}
 use Rattle.path.specs.Model.{Model, modelAt, pathOf}
 use Rattle.path.specs.Refusal.{maxSize, maxLoss, inRange, follows, ordered, validPath, sizeAbove, lossBelow, check, modelChecks, refusalOf, roomFor}
-use Rattle.path.specs.Scan.{Ready}
+use Rattle.path.specs.Scan.{Scannable}
 use Rattle.path.proofs.Checks.{both, passed, check-fails}
 
 -- a model in range
@@ -134,7 +134,7 @@ acceptable s l n m h =
     record { valid = valid-parts s l n (a .0); passes = model-passes (pathOf s l n) m (a .1) }
 
 -- such an input is ready for the scan
-ready-more : (s l : List ℕ) (n : ℕ) (m : Model) → Acceptable s l (suc n) m → Ready s l (suc n) (m .size) (m .loss)
+ready-more : (s l : List ℕ) (n : ℕ) (m : Model) → Acceptable s l (suc n) m → Scannable s l (suc n) (m .size) (m .loss)
 unfolding pathOf
 ready-more s l n m h =
     let v = h .valid in
@@ -157,7 +157,7 @@ ready-more s l n m h =
           };
     }
 
-pub ready : (s l : List ℕ) (n : ℕ) (m : Model) → (n ≡ 0 → ⊥) → Acceptable s l n m → Ready s l n (m .size) (m .loss)
+pub ready : (s l : List ℕ) (n : ℕ) (m : Model) → (n ≡ 0 → ⊥) → Acceptable s l n m → Scannable s l n (m .size) (m .loss)
 ready s l zero m z h = absurd (z refl)
 ready s l (suc n) m z h = ready-more s l n m h
 

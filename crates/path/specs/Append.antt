@@ -8,11 +8,11 @@ use lib.ListN.{length}
 use Rattle.path.specs.Model.{Model, pathOf, sizesOf, lossesOf}
 use Rattle.path.specs.Update.{extended, testsMade}
 use Rattle.path.specs.Refusal.{Check, check, refusalOf, validPath, modelChecks, roomFor}
-use Rattle.path.specs.Buffer.{laid}
-use Rattle.path.specs.declared.Appended.{Appended}
+use Rattle.path.specs.Buffer.{overwrittenTo}
+use Rattle.path.specs.declared.PathResult.{PathResult}
 
 -- what a call that fills a path leaves: the refusal (0: accepted), the number of entries, the tests, and the two buffers
-pub record Outcome : Type 0 where
+pub record PathOutcome : Type 0 where
   pub refusal : ℕ
   pub entries : ℕ
   pub tests : ℕ
@@ -20,27 +20,27 @@ pub record Outcome : Type 0 where
   pub losses : List ℕ
 
 -- an answer with the two buffers
-abbrev pub outcome : Appended → List ℕ → List ℕ → Outcome
-outcome r sizes losses =
+abbrev pub pathOutcome : PathResult → List ℕ → List ℕ → PathOutcome
+pathOutcome r sizes losses =
     record { refusal = r .refusal; entries = r .entries; tests = r .tests; sizes = sizes; losses = losses }
 
 -- the answer of a refused call: its number and zeros
-abbrev pub refusedWith : ℕ → Appended
+abbrev pub refusedWith : ℕ → PathResult
 refusedWith c = record { refusal = c; entries = 0; tests = 0 }
 
 -- a refused call: its number, zeros, and the buffers as they were
-abbrev pub refused : ℕ → List ℕ → List ℕ → Outcome
-refused c sizes losses = outcome (refusedWith c) sizes losses
+abbrev pub refused : ℕ → List ℕ → List ℕ → PathOutcome
+refused c sizes losses = pathOutcome (refusedWith c) sizes losses
 
 -- an accepted call that leaves a path, with zeros as far as place n
-abbrev pub filled : List Model → ℕ → ℕ → List ℕ → List ℕ → Outcome
+abbrev pub filled : List Model → ℕ → ℕ → List ℕ → List ℕ → PathOutcome
 filled path tests n sizes losses =
     record {
       refusal = 0;
       entries = length path;
       tests = tests;
-      sizes = laid (sizesOf path) n sizes;
-      losses = laid (lossesOf path) n losses;
+      sizes = overwrittenTo (sizesOf path) n sizes;
+      losses = overwrittenTo (lossesOf path) n losses;
     }
 
 -- the checks of an append to the path of n entries: 8, 5, 6, 7, 9. There is room if the path would then fit, so that the
@@ -51,7 +51,7 @@ appendChecks sizes losses n m =
     ∷ (modelChecks (pathOf sizes losses n) m ++ (check 9 (roomFor sizes losses (length (extended (pathOf sizes losses n) m))) ∷ []))
 
 -- an append of m to the path of n entries
-unfoldable pub appendOf : List ℕ → List ℕ → ℕ → Model → Outcome
+unfoldable pub appendOf : List ℕ → List ℕ → ℕ → Model → PathOutcome
 appendOf sizes losses n m =
     cond (eqb (refusalOf (appendChecks sizes losses n m)) 0)
     (filled (extended (pathOf sizes losses n) m) (testsMade (pathOf sizes losses n) m) n sizes losses)

@@ -18,7 +18,7 @@ pub record Comparable (size₀ loss₀ size₁ loss₁ size loss : ℕ) : Type 0
   pub low : loss₀ ≤ maxLoss
 
 -- a path of one entry or more, and a new model that may follow each of its entries
-pub record Ready (sizes losses : List ℕ) (n size loss : ℕ) : Type 0 where
+pub record Scannable (sizes losses : List ℕ) (n size loss : ℕ) : Type 0 where
   pub some : 1 ≤ n
   pub in-sizes : n ≤ length sizes
   pub in-losses : n ≤ length losses

@@ -10,9 +10,9 @@ ghost use lib.ListN.{length, take, replicate};
 ghost use Rattle.path.specs.Model.{model, pathOf};
 ghost use Rattle.path.specs.Update.{holds};
 ghost use Rattle.path.specs.Refusal.{inRange, follows, ordered, validPath, check, modelChecks, refusalOf};
-ghost use Rattle.path.specs.Buffer.{laid};
-ghost use Rattle.path.specs.Append.{outcome, refusedWith, appendOf};
-ghost use Rattle.path.specs.Scan.{Comparable, Ready, keptOf};
+ghost use Rattle.path.specs.Buffer.{overwrittenTo};
+ghost use Rattle.path.specs.Append.{pathOutcome, refusedWith, appendOf};
+ghost use Rattle.path.specs.Scan.{Comparable, Scannable, keptOf};
 
 // What a new model keeps of a path: the number of entries that stay, and the tests that this took.
 pub struct Kept {
@@ -22,7 +22,7 @@ pub struct Kept {
 
 // The answer of an append or a build: the refusal, 0 where it is accepted, and else zeros after it.
 #[repr(C)]
-pub struct Appended {
+pub struct PathResult {
     pub refusal: u64,
     pub entries: usize,
     pub tests: u64,
@@ -38,7 +38,7 @@ fn candidate_below(size0: u64, loss0: u64, size1: u64, loss1: u64, size: u64, lo
 
 // Tries a model from the last entry back, until a test holds; at the first entry it does. Each turn makes one test.
 fn scan(sizes: &[u64], losses: &[u64], entries: usize, size: u64, loss: u64) -> Kept
-    requires { ⌜ Ready (now sizes) (now losses) entries size loss ⌝ }
+    requires { ⌜ Scannable (now sizes) (now losses) entries size loss ⌝ }
     ensures { λ r. ⌜ r ≡ keptOf (pathOf (now (sizes .entry)) (now (losses .entry)) entries) (model size loss) ⌝ }
 {
     let mut i = entries;
@@ -188,7 +188,7 @@ pub fn clear(buffer: &mut [u64])
 // Puts a value after the first places, which stay, and zeros after it as far as place n.
 fn store(buffer: &mut [u64], kept: usize, n: usize, value: u64)
     requires { ⌜ (kept < length (now buffer)) × (n ≤ length (now buffer)) ⌝ }
-    ensures { λ r. ⌜ now (buffer .exit) ≡ laid (take kept (now (buffer .entry)) ++ (value ∷ [])) n (now (buffer .entry)) ⌝ }
+    ensures { λ r. ⌜ now (buffer .exit) ≡ overwrittenTo (take kept (now (buffer .entry)) ++ (value ∷ [])) n (now (buffer .entry)) ⌝ }
 {
     buffer[kept] = value;
     let end = kept + 1;
@@ -198,10 +198,10 @@ fn store(buffer: &mut [u64], kept: usize, n: usize, value: u64)
 }
 
 // The answer of a refused call.
-pub fn refuse(refusal: u64) -> Appended
+pub fn refuse(refusal: u64) -> PathResult
     ensures { λ r. ⌜ r ≡ refusedWith refusal ⌝ }
 {
-    Appended {
+    PathResult {
         refusal: refusal,
         entries: 0,
         tests: 0,
@@ -228,8 +228,8 @@ pub fn append(
     entries: usize,
     size: u64,
     loss: u64,
-) -> Appended
-    ensures { λ r. ⌜ outcome r (now (sizes .exit)) (now (losses .exit)) ≡ appendOf (now (sizes .entry)) (now (losses .entry)) entries (model size loss) ⌝ }
+) -> PathResult
+    ensures { λ r. ⌜ pathOutcome r (now (sizes .exit)) (now (losses .exit)) ≡ appendOf (now (sizes .entry)) (now (losses .entry)) entries (model size loss) ⌝ }
 {
     let refusal = input_refusal(sizes, losses, entries, size, loss);
     if refusal != 0 {
@@ -242,7 +242,7 @@ pub fn append(
     }
     store(sizes, kept, entries, size);
     store(losses, kept, entries, loss);
-    Appended {
+    PathResult {
         refusal: 0,
         entries: kept + 1,
         tests: found.tests,

@@ -5,7 +5,7 @@ use crate::exhaustive;
 use crate::history;
 use crate::history::History;
 use crate::models;
-use path::Appended;
+use path::PathResult;
 use testing::list::MARK;
 use testing::list::fault;
 use testing::list::last;
@@ -118,7 +118,7 @@ fn build_due(n: usize, room: usize) -> u64 {
 }
 
 // The mismatches of an answer and the refusal that is due, with which all else is 0.
-fn answer_faults(answer: Appended, due: u64) -> u64 {
+fn answer_faults(answer: PathResult, due: u64) -> u64 {
     let zeros = answer.entries == 0 && answer.tests == 0;
     plus(
         fault(answer.refusal == due),
@@ -160,7 +160,7 @@ fn count(before: Counts, due: u64, faults: u64, tests: u64) -> Counts {
 // The state after a call that brought so many models, to which a refusal was due, and which left two buffers so.
 fn judge(
     before: State,
-    answer: Appended,
+    answer: PathResult,
     due: u64,
     models: u64,
     path_sizes: &[u64],
@@ -219,7 +219,7 @@ fn build_first(
     n: usize,
     path_sizes: &mut [u64],
     path_losses: &mut [u64],
-) -> Appended {
+) -> PathResult {
     if sizes.len() < n {
         return path::refuse(0);
     }

@@ -29,7 +29,7 @@ fn larger(a: u64, b: u64) -> u64 {
 }
 
 // The history after a call that brought so many models. A refused call changes nothing.
-pub fn after(before: History, made: path::Appended, models: u64) -> History {
+pub fn after(before: History, made: path::PathResult, models: u64) -> History {
     if made.refusal != 0 {
         return before;
     }

@@ -10,7 +10,7 @@ use lib.ListN.{length, getD}
 use lib.Seq.{slice, length-slice}
 use lib.Signed.{mag}
 use Rattle.segment.specs.Segment.{total, levelOf, segmentLoss}
-use Rattle.segment.specs.Prefix.{raised, raisedSum, raisedSquares, Ready}
+use Rattle.segment.specs.Prefix.{raised, raisedSum, raisedSquares, Summed}
 use Rattle.segment.proofs.Integers.{PN-minus, ext, natAbs-le-PN}
 use Rattle.segment.proofs.Bounds.{Samples, slice-small, raised-PN, raised-low, total-PN, raisedSum-low, raisedSquares-low, loss-raised, level-small}
 use Rattle.segment.proofs.Sums.{sumOf-slice}
@@ -25,7 +25,7 @@ pub record Between (samples : List ℤ) (sums squares : List ℕ) (from to : ℕ
   pub square : getD squares from 0 + raisedSquares (slice from to samples) ≡ getD squares to 0
 
 -- What a ready pair of buffers says of a segment.
-pub between : {samples : List ℤ} {sums squares : List ℕ} {from to : ℕ} → Ready samples sums squares → from < to → to ≤ length samples → Between samples sums squares from to
+pub between : {samples : List ℤ} {sums squares : List ℕ} {from to : ℕ} → Summed samples sums squares → from < to → to ≤ length samples → Between samples sums squares from to
 between {samples} {sums} {squares} {from} {to} ready h k = record {
   positive = h;
   count = omega arith;

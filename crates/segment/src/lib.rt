@@ -7,7 +7,7 @@ ghost use lib.Signed.{_≤ℤ_, mag};
 ghost use lib.ListN.{length};
 ghost use lib.Seq.{slice};
 ghost use Rattle.segment.specs.Segment.{level, levelOf, segmentLoss};
-ghost use Rattle.segment.specs.Prefix.{raised, Prefixes, Ready};
+ghost use Rattle.segment.specs.Prefix.{raised, Prefixes, Summed};
 
 // The whole number nearest sum / len; of two equally near, the lower.
 pub fn level(sum: i32, len: i32) -> i32
@@ -57,7 +57,7 @@ pub fn prefix_sums(samples: &[i16], sums: &mut [u32], squares: &mut [u64])
 
 // The level of the segment of samples from + 1 to to, at 32 bits. The samples and the squares are lent for the contract alone.
 fn wide_level(samples: &[i16], sums: &[u32], squares: &[u64], from: usize, to: usize) -> i32
-    requires { ⌜ Ready (now samples) (now sums) (now squares) × ((from < to) × (to ≤ length (now samples))) ⌝ }
+    requires { ⌜ Summed (now samples) (now sums) (now squares) × ((from < to) × (to ≤ length (now samples))) ⌝ }
     ensures { λ r. ⌜ r ≡ levelOf (slice from to (now (samples .entry))) ⌝ }
 {
     let n = (to - from) as i32;
@@ -67,7 +67,7 @@ fn wide_level(samples: &[i16], sums: &[u32], squares: &[u64], from: usize, to: u
 
 // The same as a sample.
 pub fn segment_level(samples: &[i16], sums: &[u32], squares: &[u64], from: usize, to: usize) -> i16
-    requires { ⌜ Ready (now samples) (now sums) (now squares) × ((from < to) × (to ≤ length (now samples))) ⌝ }
+    requires { ⌜ Summed (now samples) (now sums) (now squares) × ((from < to) × (to ≤ length (now samples))) ⌝ }
     ensures { λ r. ⌜ r ≡ levelOf (slice from to (now (samples .entry))) ⌝ }
 {
     wide_level(samples, sums, squares, from, to) as i16
@@ -75,7 +75,7 @@ pub fn segment_level(samples: &[i16], sums: &[u32], squares: &[u64], from: usize
 
 // The loss of the segment of samples from + 1 to to, at its level. The samples are lent for the contract alone.
 pub fn segment_loss(samples: &[i16], sums: &[u32], squares: &[u64], from: usize, to: usize) -> u64
-    requires { ⌜ Ready (now samples) (now sums) (now squares) × ((from < to) × (to ≤ length (now samples))) ⌝ }
+    requires { ⌜ Summed (now samples) (now sums) (now squares) × ((from < to) × (to ≤ length (now samples))) ⌝ }
     ensures { λ r. ⌜ r ≡ segmentLoss (slice from to (now (samples .entry))) ⌝ }
 {
     let v = raise(wide_level(samples, sums, squares, from, to)) as u64;

@@ -13,8 +13,8 @@ use Rattle.path.specs.Refusal.{check, refusalOf, inRange, validPath}
 use Rattle.path.proofs.Checks.{both, passed, refusal-is}
 use Rattle.path.proofs.Order.{within, valid-parts, last-in-range, ordered-front}
 use Rattle.select.specs.Penalty.{validPenalty, maxNumerator, maxDenominator, cost}
-use Rattle.select.specs.declared.Selected.{Selected}
-use Rattle.select.specs.Select.{selectedFrom, selected, selectChecks, selectOf, selection, unselected}
+use Rattle.select.specs.declared.SelectResult.{SelectResult}
+use Rattle.select.specs.Select.{selectedFrom, selected, selectChecks, selectOf, selection, selectRefused}
 
 -- a penalty in range
 pub record Priced (p q : ℕ) : Type 0 where
@@ -73,9 +73,9 @@ module _ (s l : List ℕ) (p q : ℕ) where
 module _ (s l : List ℕ) (n p q : ℕ) where
   pub select-refusal : selectOf s l n p q .refusal ≡ refusalOf (selectChecks s l n p q)
   unfolding selectOf
-  select-refusal = refusal-is (λ (r : Selected). r .refusal) _ _ (refusalOf (selectChecks s l n p q)) refl refl
+  select-refusal = refusal-is (λ (r : SelectResult). r .refusal) _ _ (refusalOf (selectChecks s l n p q)) refl refl
 
-  pub select-refused : (c : ℕ) → c ≡ refusalOf (selectChecks s l n p q) → (c ≡ 0 → ⊥) → unselected c ≡ selectOf s l n p q
+  pub select-refused : (c : ℕ) → c ≡ refusalOf (selectChecks s l n p q) → (c ≡ 0 → ⊥) → selectRefused c ≡ selectOf s l n p q
   unfolding selectOf
   select-refused c e h = rw (← e, ne-eqb c 0 h)
 

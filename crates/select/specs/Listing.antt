@@ -6,9 +6,9 @@ use mathlib.Core.List.{List}
 use Prim.Native.Nat.{ℕ, suc, _≤_}
 use lib.ListN.{length}
 use Rattle.path.specs.Model.{pathOf}
-use Rattle.path.specs.Update.{breakpointsOf}
+use Rattle.path.specs.Update.{pathBreakpoints}
 use Rattle.path.specs.Refusal.{validPath}
-use Rattle.path.specs.Buffer.{fronted}
+use Rattle.path.specs.Buffer.{overwritten}
 use Rattle.select.specs.Breakpoints.{numeratorsOf, denominatorsOf}
 
 -- a valid path of one entry more than there are breakpoints, and room for these
@@ -21,5 +21,5 @@ pub record Listable (sizes losses : List ℕ) (count numeratorsRoom denominators
 pub record Written (sizes losses n₀ d₀ n d : List ℕ) (i : ℕ) : Type 0 where
   pub numerators-long : length n ≡ length n₀
   pub denominators-long : length d ≡ length d₀
-  pub numerators-are : n ≡ fronted (numeratorsOf (breakpointsOf (pathOf sizes losses (suc i)))) n₀
-  pub denominators-are : d ≡ fronted (denominatorsOf (breakpointsOf (pathOf sizes losses (suc i)))) d₀
+  pub numerators-are : n ≡ overwritten (numeratorsOf (pathBreakpoints (pathOf sizes losses (suc i)))) n₀
+  pub denominators-are : d ≡ overwritten (denominatorsOf (pathBreakpoints (pathOf sizes losses (suc i)))) d₀

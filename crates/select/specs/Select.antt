@@ -8,7 +8,7 @@ use lib.ListN.{getD}
 use Rattle.path.specs.Model.{modelAt}
 use Rattle.path.specs.Refusal.{Check, check, refusalOf, validPath}
 use Rattle.select.specs.Penalty.{validPenalty, cost}
-use Rattle.select.specs.declared.Selected.{Selected}
+use Rattle.select.specs.declared.SelectResult.{SelectResult}
 
 -- from entry i on, with m entries after it: on while the next one costs strictly less
 unfoldable pub selectedFrom : List ℕ → List ℕ → ℕ → ℕ → ℕ → ℕ → ℕ
@@ -28,16 +28,16 @@ selectChecks sizes losses n p q =
     check 8 (validPath sizes losses n) ∷ check 10 (leb 1 n) ∷ check 4 (validPenalty p q) ∷ []
 
 -- the answer of a refused selection: its number and zeros
-abbrev pub unselected : ℕ → Selected
-unselected c = record { refusal = c; index = 0; size = 0; loss = 0 }
+abbrev pub selectRefused : ℕ → SelectResult
+selectRefused c = record { refusal = c; index = 0; size = 0; loss = 0 }
 
 -- the answer that gives entry i
-abbrev pub selection : List ℕ → List ℕ → ℕ → Selected
+abbrev pub selection : List ℕ → List ℕ → ℕ → SelectResult
 selection sizes losses i = record { refusal = 0; index = i; size = getD sizes i 0; loss = getD losses i 0 }
 
 -- the selection from the path of n entries at the penalty p / q
-unfoldable pub selectOf : List ℕ → List ℕ → ℕ → ℕ → ℕ → Selected
+unfoldable pub selectOf : List ℕ → List ℕ → ℕ → ℕ → ℕ → SelectResult
 selectOf sizes losses n p q =
     cond (eqb (refusalOf (selectChecks sizes losses n p q)) 0)
     (selection sizes losses (selected sizes losses n p q))
-    (unselected (refusalOf (selectChecks sizes losses n p q)))
+    (selectRefused (refusalOf (selectChecks sizes losses n p q)))

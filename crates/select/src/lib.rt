@@ -9,12 +9,12 @@ ghost use Rattle.path.specs.Model.{model};
 ghost use Rattle.path.specs.Refusal.{inRange, validPath, refusalOf};
 ghost use Rattle.select.specs.Penalty.{validPenalty, cost};
 ghost use Rattle.select.specs.Select.{selected, selectChecks, selectOf};
-ghost use Rattle.select.specs.Breakpoints.{outcome, breakpointChecks, breakpointsIn};
+ghost use Rattle.select.specs.Breakpoints.{breakpointsOutcome, breakpointChecks, breakpointsOf};
 ghost use Rattle.select.specs.Listing.{Listable, Written};
 
 // The answer of a selection: the refusal, 0 where it is accepted, then the entry's index from 0, its size and its loss.
 #[repr(C)]
-pub struct Selected {
+pub struct SelectResult {
     pub refusal: u64,
     pub index: usize,
     pub size: u64,
@@ -23,7 +23,7 @@ pub struct Selected {
 
 // The answer of a call that lists breakpoints: the refusal, 0 where it is accepted, then how many there are.
 #[repr(C)]
-pub struct Listed {
+pub struct BreakpointsResult {
     pub refusal: u64,
     pub count: usize,
 }
@@ -85,12 +85,12 @@ fn select_refusal(sizes: &[u64], losses: &[u64], entries: usize, p: u64, q: u64)
 }
 
 // The entry of a path at the penalty p / q.
-pub fn select(sizes: &[u64], losses: &[u64], entries: usize, p: u64, q: u64) -> Selected
+pub fn select(sizes: &[u64], losses: &[u64], entries: usize, p: u64, q: u64) -> SelectResult
     ensures { λ r. ⌜ r ≡ selectOf (now (sizes .entry)) (now (losses .entry)) entries p q ⌝ }
 {
     let refusal = select_refusal(sizes, losses, entries, p, q);
     if refusal != 0 {
-        return Selected {
+        return SelectResult {
             refusal: refusal,
             index: 0,
             size: 0,
@@ -98,7 +98,7 @@ pub fn select(sizes: &[u64], losses: &[u64], entries: usize, p: u64, q: u64) -> 
         };
     }
     let at = walk(sizes, losses, entries, p, q);
-    Selected {
+    SelectResult {
         refusal: 0,
         index: at,
         size: sizes[at],
@@ -159,25 +159,25 @@ pub fn breakpoints(
     entries: usize,
     numerators: &mut [u64],
     denominators: &mut [u64],
-) -> Listed
-    ensures { λ r. ⌜ outcome r (now (numerators .exit)) (now (denominators .exit)) ≡ breakpointsIn (now (sizes .entry)) (now (losses .entry)) entries (now (numerators .entry)) (now (denominators .entry)) ⌝ }
+) -> BreakpointsResult
+    ensures { λ r. ⌜ breakpointsOutcome r (now (numerators .exit)) (now (denominators .exit)) ≡ breakpointsOf (now (sizes .entry)) (now (losses .entry)) entries (now (numerators .entry)) (now (denominators .entry)) ⌝ }
 {
     let refusal = breakpoints_refusal(sizes, losses, entries, numerators.len(), denominators.len());
     if refusal != 0 {
-        return Listed {
+        return BreakpointsResult {
             refusal: refusal,
             count: 0,
         };
     }
     if entries == 0 {
-        return Listed {
+        return BreakpointsResult {
             refusal: 0,
             count: 0,
         };
     }
     let count = entries - 1;
     write_breakpoints(sizes, losses, count, numerators, denominators);
-    Listed {
+    BreakpointsResult {
         refusal: 0,
         count: count,
     }

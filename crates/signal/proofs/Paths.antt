@@ -13,12 +13,12 @@ use borrow.Author.Tests.{lt-ltb, le-leb}
 use Rattle.path.specs.Model.{Model, model, pathOf, sizesOf, lossesOf}
 use Rattle.path.specs.Update.{holds, kept, extended}
 use Rattle.path.specs.Refusal.{maxSize, maxLoss, inRange, ordered, validPath, sizeAbove, lossBelow}
-use Rattle.path.specs.Append.{Outcome, appendOf}
-use Rattle.path.specs.Buffer.{laid, Held}
+use Rattle.path.specs.Append.{PathOutcome, appendOf}
+use Rattle.path.specs.Buffer.{overwrittenTo, Held}
 use Rattle.path.proofs.Paths.{length-sizes, length-losses}
-use Rattle.path.proofs.Buffers.{path-laid, length-laid}
+use Rattle.path.proofs.Buffers.{path-overwritten, length-overwritten}
 use Rattle.path.proofs.Updates.{kept-few, extended-ordered}
-use Rattle.path.proofs.Held.{held-none, held-skip, held-append, held-refused, held-length, sizes-laid, losses-laid}
+use Rattle.path.proofs.Held.{held-none, held-skip, held-append, held-refused, held-length, sizes-overwritten, losses-overwritten}
 use Rattle.least.specs.Segmentation.{least}
 use Rattle.signal.specs.Signal.{sizeCount, modelOf, signalPath}
 use Rattle.signal.specs.Steps.{LossesFrom, TableHeld, Solved}
@@ -120,7 +120,7 @@ module _ (xs : List ℤ) (losses : List ℕ) (count : ℕ) (s₀ l₀ s l : List
   above = size-above xs i (signalPath xs i) (path-sized xs i)
 
   -- the buffers that an outcome leaves hold the next path, whether the size was taken or refused
-  abbrev pub Turned : Outcome → Type 0
+  abbrev pub Turned : PathOutcome → Type 0
   Turned o =
       (o .refusal ≡ 0 → Held (signalPath xs (i + 1)) s₀ l₀ (o .sizes) (o .losses) (o .entries) (i + 1))
       × ((o .refusal ≡ 0 → ⊥) → Held (signalPath xs (i + 1)) s₀ l₀ (o .sizes) (o .losses) n (i + 1))
@@ -140,7 +140,7 @@ module _ (xs : List ℤ) (losses : List ℕ) (count : ℕ) (s₀ l₀ s l : List
           rw a (λ z. absurd (seven z), λ z. subst (λ (st : List Model). Held st s₀ l₀ s l n (i + 1)) (path-skipped xs i e) (held-skip (signalPath xs i) s₀ l₀ s l n i h))
 
   -- the append of size i + 1 with the loss from the table
-  pub turned : (o : Outcome) → o ≡ appendOf s l n (model (i + 1) (getD losses i 0)) → Turned o
+  pub turned : (o : PathOutcome) → o ≡ appendOf s l n (model (i + 1) (getD losses i 0)) → Turned o
   turned o e =
       let m : model (i + 1) (getD losses i 0) ≡ new = rw (add-one i, ok .losses-are i turn) in
       subst Turned (sym (e ∙ ap (appendOf s l n) m)) turned-by-append
@@ -154,16 +154,16 @@ unfolding validPath
 solved xs limit count e s₀ l₀ s l s' l' w n h in-s in-l few t x y =
     let path = signalPath xs count in
     let long = held-length path s₀ l₀ s l n count h in
-    let sizes : s' ≡ laid (sizesOf path) count s₀ = x ∙ sizes-laid path s₀ l₀ s l n count h in-s in-l in
-    let losses : l' ≡ laid (lossesOf path) count l₀ = y ∙ losses-laid path s₀ l₀ s l n count h in-s in-l in
-    let is : pathOf s' l' n ≡ path = rw (sizes, losses, ← long) (path-laid path count s₀ l₀) in
-    let len-s : length s' ≡ length s₀ = ap length sizes ∙ length-laid (sizesOf path) count s₀ (omega (arith, length-sizes path, h .most)) in-s in
-    let len-l : length l' ≡ length l₀ = ap length losses ∙ length-laid (lossesOf path) count l₀ (omega (arith, length-losses path, h .most)) in-l in
+    let sizes : s' ≡ overwrittenTo (sizesOf path) count s₀ = x ∙ sizes-overwritten path s₀ l₀ s l n count h in-s in-l in
+    let losses : l' ≡ overwrittenTo (lossesOf path) count l₀ = y ∙ losses-overwritten path s₀ l₀ s l n count h in-s in-l in
+    let is : pathOf s' l' n ≡ path = rw (sizes, losses, ← long) (path-overwritten path count s₀ l₀) in
+    let len-s : length s' ≡ length s₀ = ap length sizes ∙ length-overwritten (sizesOf path) count s₀ (omega (arith, length-sizes path, h .most)) in-s in
+    let len-l : length l' ≡ length l₀ = ap length losses ∙ length-overwritten (lossesOf path) count l₀ (omega (arith, length-losses path, h .most)) in-l in
     let order : ordered (pathOf s' l' n) ≡ true = ap ordered (is ∙ sym (h .is)) ∙ h .order in
     record {
       counted = sym long ∙ ap (λ (k : ℕ). length (signalPath xs k)) e;
-      sizes-are = sizes ∙ ap (λ (k : ℕ). laid (sizesOf (signalPath xs k)) k s₀) e;
-      losses-are = losses ∙ ap (λ (k : ℕ). laid (lossesOf (signalPath xs k)) k l₀) e;
+      sizes-are = sizes ∙ ap (λ (k : ℕ). overwrittenTo (sizesOf (signalPath xs k)) k s₀) e;
+      losses-are = losses ∙ ap (λ (k : ℕ). overwrittenTo (lossesOf (signalPath xs k)) k l₀) e;
       valid = rw (le-leb n (length s') (omega (arith, h .most)), le-leb n (length l') (omega (arith, h .most)), le-leb n 4096 (omega (arith, h .most))) order;
       table = subst (λ (k : ℕ). TableHeld xs k w) e t;
     }

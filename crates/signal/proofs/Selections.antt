@@ -12,13 +12,13 @@ use lib.IntN.{ℤ}
 use lib.ListN.{length, drop}
 use Rattle.path.specs.Model.{Model, modelAt, pathOf, sizesOf, lossesOf}
 use Rattle.path.specs.Refusal.{ordered, validPath}
-use Rattle.path.specs.Buffer.{fronted}
+use Rattle.path.specs.Buffer.{overwritten}
 use Rattle.path.proofs.Paths.{length-path, length-sizes, length-losses, places-agree}
 use Rattle.path.proofs.Order.{valid-parts, valid-whole}
 use Rattle.path.proofs.Buffers.{path-front}
 use Rattle.select.specs.Penalty.{validPenalty, cost}
 use Rattle.select.specs.Select.{selectedFrom, selected, selectOf, selection}
-use Rattle.select.specs.declared.Selected.{Selected}
+use Rattle.select.specs.declared.SelectResult.{SelectResult}
 use Rattle.select.proofs.Walks.{Selectable, accepted, selected-within, select-done}
 use Rattle.least.specs.Segmentation.{least, startsOf, levelsOf, lossOf}
 use Rattle.least.specs.Table.{TraceFrom, LevelsFrom}
@@ -61,7 +61,7 @@ sized-at xs k s l (suc n) h i p =
     ⊎-elim (λ (q : i ≡ n). rw q (h .0)) (λ (q : i < n). sized-at xs k s l n (h .1) i q) (eq-or-lt-of-le {n = i} {m = n} (omega arith))
 
 -- what is selected from the path of a signal in any buffers
-pub record Entry (xs : List ℤ) (count p q : ℕ) (found : Selected) : Type 0 where
+pub record Entry (xs : List ℤ) (count p q : ℕ) (found : SelectResult) : Type 0 where
   pub is : found ≡ selectOf (sizesOf (signalPath xs count)) (lossesOf (signalPath xs count)) (length (signalPath xs count)) p q
   pub last : ℕ
   pub few : last < count
@@ -104,7 +104,7 @@ module _ (xs : List ℤ) (count : ℕ) (s l : List ℕ) (n p q : ℕ) (ok : Path
         penalty = ok .penalty;
       }
 
-  pub entry : (found : Selected) → found ≡ selectOf s l n p q → Entry xs count p q found
+  pub entry : (found : SelectResult) → found ≡ selectOf s l n p q → Entry xs count p q found
   entry found e =
       let same : pathOf s l n ≡ pathOf (sizesOf path) (lossesOf path) n = ok .is ∙ sym (path-alone path) ∙ ap (pathOf (sizesOf path) (lossesOf path)) (sym entries) in
       let i = selected s l n p q in
@@ -115,17 +115,17 @@ module _ (xs : List ℤ) (count : ℕ) (s l : List ℕ) (n p q : ℕ) (ok : Path
         is = e ∙ select-agrees s l (sizesOf path) (lossesOf path) n p q same in-buffers alone ∙ ap (λ (k : ℕ). selectOf (sizesOf path) (lossesOf path) k p q) entries;
         last = m .0;
         few = m .1;
-        size = ap (λ (r : Selected). r .size) answer ∙ ap (λ (x : Model). x .size) (m .2);
-        loss = ap (λ (r : Selected). r .loss) answer ∙ ap (λ (x : Model). x .loss) (m .2);
+        size = ap (λ (r : SelectResult). r .size) answer ∙ ap (λ (x : Model). x .size) (m .2);
+        loss = ap (λ (r : SelectResult). r .loss) answer ∙ ap (λ (x : Model). x .loss) (m .2);
       }
 
 -- what the segmentation at a penalty is made from
 module _ (xs : List ℤ) (count : ℕ) (s l : List ℕ) (n p q : ℕ) (w starts : List ℕ) (levels : List ℤ) (ok : SegmentFrom xs count s l n p q w starts levels) where
-  pub entry-from : (found : Selected) → found ≡ selectOf s l n p q → Entry xs count p q found
+  pub entry-from : (found : SelectResult) → found ≡ selectOf s l n p q → Entry xs count p q found
   entry-from found e =
       entry xs count s l n p q (record { one = ok .one; is = ok .path; valid = ok .valid; penalty = ok .penalty }) found e
 
-  module _ (found : Selected) (h : Entry xs count p q found) where
+  module _ (found : SelectResult) (h : Entry xs count p q found) where
     pub may-trace : TraceFrom xs w starts (found .size)
     may-trace =
         record {
@@ -152,17 +152,17 @@ module _ (xs : List ℤ) (count : ℕ) (s l : List ℕ) (n p q : ℕ) (w starts 
       pub segmented : (levels' : List ℤ) → levels' ≡ levelsOf (segmentation xs (found .size)) ++ drop (found .size) levels → SegmentedAt xs count p q starts levels starts' levels' found
       segmented levels' f =
           let k = found .size in
-          let size : k ≡ segmentsAt (signalPath xs count) p q = ap (λ (r : Selected). r .size) (h .is) in
+          let size : k ≡ segmentsAt (signalPath xs count) p q = ap (λ (r : SelectResult). r .size) (h .is) in
           let one : suc (k - 1) ≡ k = omega (arith, h .size) in
           let last : k - 1 ≡ h .last = omega (arith, h .size) in
           let starts-long : length (startsOf (segmentation xs k)) ≡ k = starts-count xs (k - 1) (length xs) ∙ one in
           let levels-long : length (levelsOf (segmentation xs k)) ≡ k = levels-count xs (k - 1) (length xs) ∙ one in
           let loss : found .loss ≡ lossOf (segmentation xs k) = h .loss ∙ ap (λ (m : ℕ). least xs m (length xs)) (sym last) ∙ sym (chosen-loss xs (k - 1) (length xs)) in
-          let fs : starts' ≡ fronted (startsOf (segmentation xs k)) starts = e ∙ ap (λ (m : ℕ). startsOf (segmentation xs k) ++ drop m starts) (sym starts-long) in
-          let fl : levels' ≡ fronted (levelsOf (segmentation xs k)) levels = f ∙ ap (λ (m : ℕ). levelsOf (segmentation xs k) ++ drop m levels) (sym levels-long) in
+          let fs : starts' ≡ overwritten (startsOf (segmentation xs k)) starts = e ∙ ap (λ (m : ℕ). startsOf (segmentation xs k) ++ drop m starts) (sym starts-long) in
+          let fl : levels' ≡ overwritten (levelsOf (segmentation xs k)) levels = f ∙ ap (λ (m : ℕ). levelsOf (segmentation xs k) ++ drop m levels) (sym levels-long) in
           record {
             found-is = h .is;
             loss-is = loss ∙ ap (λ (m : ℕ). lossOf (segmentation xs m)) size;
-            starts-are = fs ∙ ap (λ (m : ℕ). fronted (startsOf (segmentation xs m)) starts) size;
-            levels-are = fl ∙ ap (λ (m : ℕ). fronted (levelsOf (segmentation xs m)) levels) size;
+            starts-are = fs ∙ ap (λ (m : ℕ). overwritten (startsOf (segmentation xs m)) starts) size;
+            levels-are = fl ∙ ap (λ (m : ℕ). overwritten (levelsOf (segmentation xs m)) levels) size;
           }

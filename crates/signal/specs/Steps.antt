@@ -8,10 +8,10 @@ use lib.IntN.{ℤ}
 use lib.ListN.{length, getD}
 use Rattle.path.specs.Model.{pathOf, sizesOf, lossesOf}
 use Rattle.path.specs.Refusal.{validPath, maxLoss}
-use Rattle.path.specs.Buffer.{laid, fronted}
+use Rattle.path.specs.Buffer.{overwrittenTo, overwritten}
 use Rattle.select.specs.Penalty.{validPenalty}
 use Rattle.select.specs.Select.{selectOf}
-use Rattle.select.specs.declared.Selected.{Selected}
+use Rattle.select.specs.declared.SelectResult.{SelectResult}
 use Rattle.least.specs.Segmentation.{least, startsOf, levelsOf, lossOf}
 use Rattle.least.specs.Table.{scratchLen, StartsAre}
 use Rattle.signal.specs.Signal.{maxSamples, maxLimit, sizeCount, signalPath, segmentsAt, segmentation}
@@ -43,8 +43,8 @@ pub record TableHeld (samples : List ℤ) (count : ℕ) (scratch : List ℕ) : T
 -- the path's buffers, which were s₀ and l₀, hold the signal's path, and the scratch the table
 pub record Solved (samples : List ℤ) (limit : ℕ) (s₀ l₀ s l scratch : List ℕ) (entries : ℕ) : Type 0 where
   pub counted : entries ≡ length (signalPath samples (sizeCount samples limit))
-  pub sizes-are : s ≡ laid (sizesOf (signalPath samples (sizeCount samples limit))) (sizeCount samples limit) s₀
-  pub losses-are : l ≡ laid (lossesOf (signalPath samples (sizeCount samples limit))) (sizeCount samples limit) l₀
+  pub sizes-are : s ≡ overwrittenTo (sizesOf (signalPath samples (sizeCount samples limit))) (sizeCount samples limit) s₀
+  pub losses-are : l ≡ overwrittenTo (lossesOf (signalPath samples (sizeCount samples limit))) (sizeCount samples limit) l₀
   pub valid : validPath s l entries ≡ true
   pub table : TableHeld samples (sizeCount samples limit) scratch
 
@@ -62,8 +62,8 @@ pub record SegmentFrom (samples : List ℤ) (count : ℕ) (sizes losses : List �
   pub levels-fit : count ≤ length levels
 
 -- the segmentation of a signal at a penalty: the path's entry there, which has its size and its loss, its starts and its levels
-pub record SegmentedAt (samples : List ℤ) (count p q : ℕ) (starts₀ : List ℕ) (levels₀ : List ℤ) (starts : List ℕ) (levels : List ℤ) (found : Selected) : Type 0 where
+pub record SegmentedAt (samples : List ℤ) (count p q : ℕ) (starts₀ : List ℕ) (levels₀ : List ℤ) (starts : List ℕ) (levels : List ℤ) (found : SelectResult) : Type 0 where
   pub found-is : found ≡ selectOf (sizesOf (signalPath samples count)) (lossesOf (signalPath samples count)) (length (signalPath samples count)) p q
   pub loss-is : found .loss ≡ lossOf (segmentation samples (segmentsAt (signalPath samples count) p q))
-  pub starts-are : starts ≡ fronted (startsOf (segmentation samples (segmentsAt (signalPath samples count) p q))) starts₀
-  pub levels-are : levels ≡ fronted (levelsOf (segmentation samples (segmentsAt (signalPath samples count) p q))) levels₀
+  pub starts-are : starts ≡ overwritten (startsOf (segmentation samples (segmentsAt (signalPath samples count) p q))) starts₀
+  pub levels-are : levels ≡ overwritten (levelsOf (segmentation samples (segmentsAt (signalPath samples count) p q))) levels₀

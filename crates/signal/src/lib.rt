@@ -9,17 +9,17 @@ ghost use lib.ListN.{length, replicate};
 ghost use Rattle.path.specs.Refusal.{refusalOf};
 ghost use Rattle.path.specs.Buffer.{Held};
 ghost use Rattle.signal.specs.Signal.{signalPath};
-ghost use Rattle.signal.specs.Outcome.{inputChecks, pathFits, pathChecks, splitChecks, pathOutcome, signalPathOf, splitOutcome, splitOf};
+ghost use Rattle.signal.specs.Outcome.{inputChecks, pathFits, pathChecks, splitChecks, signalPathOutcome, signalPathOf, splitOutcome, splitOf};
 ghost use Rattle.signal.specs.Steps.{LossesFrom, Solvable, Solved, SegmentFrom, SegmentedAt};
 use least::SCRATCH_LEN;
 use least::fill_table;
 use least::put_levels;
 use least::trace_back;
-use select::Selected;
+use select::SelectResult;
 
 // The answer of a path call: the refusal, 0 where it is accepted, and the number of entries.
 #[repr(C)]
-pub struct Pathed {
+pub struct SignalPathResult {
     pub refusal: u64,
     pub entries: usize,
 }
@@ -27,7 +27,7 @@ pub struct Pathed {
 // The answer of a split: the refusal, 0 where it is accepted, then the number of segments, their loss, and the number of
 // entries of the path.
 #[repr(C)]
-pub struct Segmented {
+pub struct SplitResult {
     pub refusal: u64,
     pub segments: usize,
     pub loss: u64,
@@ -193,7 +193,7 @@ pub fn segment_at(
     scratch: &[u8],
     starts: &mut [u16],
     levels: &mut [i16],
-) -> Selected
+) -> SelectResult
     requires { ⌜ SegmentFrom (now samples) count (now «path_sizes») (now «path_losses») entries p q (now scratch) (now starts) (now levels) ⌝ }
     ensures { λ r. ⌜ SegmentedAt (now (samples .entry)) count p q (now (starts .entry)) (now (levels .entry)) (now (starts .exit)) (now (levels .exit)) r ⌝ }
 {
@@ -222,8 +222,8 @@ pub fn signal_path(
     path_sizes: &mut [u64],
     path_losses: &mut [u64],
     scratch: &mut [u8],
-) -> Pathed
-    ensures { λ r. ⌜ pathOutcome r (now («path_sizes» .exit)) (now («path_losses» .exit)) (now (scratch .exit)) ≡ signalPathOf (now (samples .entry)) «max_segments» (now («path_sizes» .entry)) (now («path_losses» .entry)) (now (scratch .entry)) ⌝ }
+) -> SignalPathResult
+    ensures { λ r. ⌜ signalPathOutcome r (now («path_sizes» .exit)) (now («path_losses» .exit)) (now (scratch .exit)) ≡ signalPathOf (now (samples .entry)) «max_segments» (now («path_sizes» .entry)) (now («path_losses» .entry)) (now (scratch .entry)) ⌝ }
 {
     let refusal = path_refusal(
         samples.len(),
@@ -233,7 +233,7 @@ pub fn signal_path(
         scratch.len(),
     );
     if refusal != 0 {
-        return Pathed {
+        return SignalPathResult {
             refusal: refusal,
             entries: 0,
         };
@@ -246,7 +246,7 @@ pub fn signal_path(
         scratch,
     );
     clear_bytes(scratch);
-    Pathed {
+    SignalPathResult {
         refusal: 0,
         entries: entries,
     }
@@ -263,7 +263,7 @@ pub fn split(
     path_sizes: &mut [u64],
     path_losses: &mut [u64],
     scratch: &mut [u8],
-) -> Segmented
+) -> SplitResult
     ensures { λ r. ⌜ splitOutcome r (now (starts .exit)) (now (levels .exit)) (now («path_sizes» .exit)) (now («path_losses» .exit)) (now (scratch .exit)) ≡ splitOf (now (samples .entry)) «max_segments» p q (now (starts .entry)) (now (levels .entry)) (now («path_sizes» .entry)) (now («path_losses» .entry)) (now (scratch .entry)) ⌝ }
 {
     let refusal = split_refusal(
@@ -278,7 +278,7 @@ pub fn split(
         scratch.len(),
     );
     if refusal != 0 {
-        return Segmented {
+        return SplitResult {
             refusal: refusal,
             segments: 0,
             loss: 0,
@@ -301,7 +301,7 @@ pub fn split(
         levels,
     );
     clear_bytes(scratch);
-    Segmented {
+    SplitResult {
         refusal: 0,
         segments: found.size as usize,
         loss: found.loss,

@@ -4,8 +4,8 @@ use Prim.Native.Nat.{ℕ, _-_}
 use native.Mathlib.Omega.{arith}
 use lib.ListN.{length, replicate}
 use borrow.Rule.Slice.PartMut.{putMid, mid-len}
-use Rattle.path.specs.declared.Appended.{Appended}
-use Rattle.path.specs.Append.{outcome}
+use Rattle.path.specs.declared.PathResult.{PathResult}
+use Rattle.path.specs.Append.{pathOutcome}
 use Rattle.build.proofs.Lists.{fillable}
 use Rattle.build.proofs.Cases.{build-refused, build-done}
 use borrow.Author.Needs.{needs}
@@ -22,7 +22,7 @@ returns : tie.Need-returns
 returns c =
     let a = c .before .before .before .before .before .before .before .args in
     let r = c .before .before .build-refusal in
-    ap (λ (x : Appended). outcome x (a .path-sizes .now) (a .path-losses .now)) (c .refuse .ensures)
+    ap (λ (x : PathResult). pathOutcome x (a .path-sizes .now) (a .path-losses .now)) (c .refuse .ensures)
     ∙ build-refused (a .sizes .now) (a .losses .now) (a .path-sizes .now) (a .path-losses .now) (r .result) (r .ensures) (c .before .if1 .taken)
 
 fill-requires : tie.Need-fill-requires

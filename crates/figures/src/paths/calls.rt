@@ -1,6 +1,6 @@
 // One call on buffers of marks, or on a lent path, with all that it answers printed and the number of places that it changed.
 
-use path::Appended;
+use path::PathResult;
 use testing::list::MARK;
 use testing::list::changed;
 use testing::list::copy;
@@ -8,7 +8,7 @@ use testing::text::print;
 
 // Prints what an append or a build answered, and the places at which two buffers have changed from these fronts.
 fn print_made(
-    made: Appended,
+    made: PathResult,
     sizes: &[u64],
     losses: &[u64],
     sizes_before: &[u64],
@@ -34,7 +34,7 @@ fn append_in(
     room: usize,
     size: u64,
     loss: u64,
-) -> Appended {
+) -> PathResult {
     if sizes.len() < room {
         return path::refuse(0);
     }
@@ -74,7 +74,7 @@ fn build_in(
     path_sizes: &mut [u64],
     path_losses: &mut [u64],
     room: usize,
-) -> Appended {
+) -> PathResult {
     if path_sizes.len() < room {
         return path::refuse(0);
     }

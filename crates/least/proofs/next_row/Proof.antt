@@ -13,7 +13,7 @@ use lib.Seq.{slice, getD-set-same, getD-set-other}
 use Rattle.layout.specs.Item.{item, setItem}
 use Rattle.layout.proofs.Laws.{length-setItem, byte-kept, item-same, item-other}
 use Rattle.segment.specs.Segment.{segmentLoss}
-use Rattle.least.specs.Segmentation.{joined, lastStart, least}
+use Rattle.least.specs.Segmentation.{lossWithLast, lastStart, least}
 use Rattle.least.specs.Table.{scratchLen, startPlace, rowOf, Picked, NextFrom, NextRow}
 use Rattle.least.proofs.LeastLosses.{ready-small, lastStart-earliest, lastStart-same, least-low}
 use Rattle.least.proofs.next_row.Statement.{statement}
@@ -33,13 +33,13 @@ record Rows (xs : List ℤ) (m j : ℕ) (row old scratch : List ℕ) : Type 0 wh
 -- What a search finds is the start and the loss of the definition.
 picked-is : {xs : List ℤ} {row : List ℕ} {m j loss start : ℕ} → Picked xs row (m + 1) j loss start → m + 1 < j → ((t : ℕ) → m < t → t < j → getD row t 0 ≡ least xs m t)
     → (start ≡ lastStart xs (least xs m) (suc m) j) × (loss ≡ least xs (suc m) j)
-unfolding least joined
+unfolding least lossWithLast
 picked-is {xs} {row} {m} {j} {loss} {start} p h same =
     let f = lastStart-earliest xs (rowOf row) (m + 1) j h in
     let e : start ≡ lastStart xs (least xs m) (suc m) j =
     p .start-is ∙ lastStart-same xs (rowOf row) (least xs m) (m + 1) j h (λ t l u. same t (omega arith) u) ∙ ap (λ (k : ℕ). lastStart xs (least xs m) k j) (add-one m) in
     let g : getD row start 0 ≡ least xs m start = same start (omega (arith, p .start-is, f .low)) (omega (arith, p .start-is, f .high)) in
-    (e, p .loss-is ∙ ap (λ (v : ℕ). v + segmentLoss (slice start j xs)) g ∙ ap (joined xs (least xs m) j) e)
+    (e, p .loss-is ∙ ap (λ (v : ℕ). v + segmentLoss (slice start j xs)) g ∙ ap (lossWithLast xs (least xs m) j) e)
 
 -- A start that a search finds stands before the end.
 picked-low : {xs : List ℤ} {row : List ℕ} {low j loss start : ℕ} → Picked xs row low j loss start → low < j → start < j

@@ -11,7 +11,7 @@ use lib.ListN.{length, getD}
 use lib.Seq.{slice}
 use Rattle.segment.specs.Segment.{segmentLoss}
 use Rattle.least.specs.Earliest.{Earliest}
-use Rattle.least.specs.Segmentation.{joined, lastStart}
+use Rattle.least.specs.Segmentation.{lossWithLast, lastStart}
 use Rattle.least.specs.Table.{rowOf, PickFrom, Picked}
 use Rattle.least.proofs.Earliest.{earliest-one, earliest-start, down-take, down-keep, down-all}
 use Rattle.least.proofs.LeastLosses.{ready-small, slice-low, loss-grows, lastStart-earliest}
@@ -22,8 +22,8 @@ use Rattle.least.proofs.pick_start.Tie as tie
 record Scan (xs : List ℤ) (row : List ℕ) (low to i start loss : ℕ) : Type 0 where
   above : low ≤ i
   below : i < to
-  is : loss ≡ joined xs (rowOf row) to start
-  earliest : Earliest (joined xs (rowOf row) to) i to start
+  is : loss ≡ lossWithLast xs (rowOf row) to start
+  earliest : Earliest (lossWithLast xs (rowOf row) to) i to start
 
 -- A loss before and a segment's own loss together are small.
 sum-low : {xs : List ℤ} {sums squares row : List ℕ} {low to v : ℕ} → PickFrom xs sums squares row low to → (i : ℕ) → low ≤ i → i < to → v ≡ segmentLoss (slice i to xs) → getD row i 0 + v ≤ 4294836225 * 512
@@ -33,41 +33,41 @@ sum-low {xs} {to = to} p i l u e =
 module _ {xs : List ℤ} {row : List ℕ} {low to : ℕ} where
   -- The last place alone.
   scan-start : {v : ℕ} → low < to → v ≡ segmentLoss (slice (to - 1) to xs) → Scan xs row low to (to - 1) (to - 1) (getD row (to - 1) 0 + v)
-  unfolding joined
+  unfolding lossWithLast
   scan-start h e =
       let k : to - 1 + 1 ≡ to = omega arith in
       record {
         above = omega arith;
         below = omega arith;
         is = ap (λ (v : ℕ). getD row (to - 1) 0 + v) e;
-        earliest = subst (λ (m : ℕ). Earliest (joined xs (rowOf row) to) (to - 1) m (to - 1)) k (earliest-start (joined xs (rowOf row) to) (to - 1));
+        earliest = subst (λ (m : ℕ). Earliest (lossWithLast xs (rowOf row) to) (to - 1) m (to - 1)) k (earliest-start (lossWithLast xs (rowOf row) to) (to - 1));
       }
 
   -- What the scan has found when all places are done with.
-  picked : {start loss : ℕ} → low < to → loss ≡ joined xs (rowOf row) to start → Earliest (joined xs (rowOf row) to) low to start → Picked xs row low to loss start
-  picked {start} h e p = record { start-is = earliest-one (joined xs (rowOf row) to) low to start (lastStart xs (rowOf row) low to) p (lastStart-earliest xs (rowOf row) low to h); loss-is = e }
+  picked : {start loss : ℕ} → low < to → loss ≡ lossWithLast xs (rowOf row) to start → Earliest (lossWithLast xs (rowOf row) to) low to start → Picked xs row low to loss start
+  picked {start} h e p = record { start-is = earliest-one (lossWithLast xs (rowOf row) to) low to start (lastStart xs (rowOf row) low to) p (lastStart-earliest xs (rowOf row) low to h); loss-is = e }
 
   -- The lowest place has no loss: nothing is better or earlier.
   none-lost : {v : ℕ} → low < to → v ≡ segmentLoss (slice low to xs) → getD row low 0 + v ≡ 0 → Picked xs row low to 0 low
-  unfolding joined
+  unfolding lossWithLast
   none-lost h e z =
-      let k : 0 ≡ joined xs (rowOf row) to low = omega arith in
+      let k : 0 ≡ lossWithLast xs (rowOf row) to low = omega arith in
       picked h k (record { low = omega arith; high = h; minimal = λ t l u. omega arith; first = λ t l u. absurd (omega arith) })
 
   -- The scan has reached the lowest place.
   scan-end : {i start loss : ℕ} → Scan xs row low to i start loss → i ≤ low → Picked xs row low to loss start
   scan-end {i} {start} scan h =
       let k : i ≡ low = omega (arith, scan .above) in
-      picked (omega (arith, scan .below)) (scan .is) (subst (λ (m : ℕ). Earliest (joined xs (rowOf row) to) m to start) k (scan .earliest))
+      picked (omega (arith, scan .below)) (scan .is) (subst (λ (m : ℕ). Earliest (lossWithLast xs (rowOf row) to) m to start) k (scan .earliest))
 
   module _ {i start loss v : ℕ} (scan : Scan xs row low to i start loss) (more : low < i) (e : v ≡ segmentLoss (slice (i - 1) to xs)) where
     -- What is found so far, as of the places past the next one.
-    lower : Earliest (joined xs (rowOf row) to) (i - 1 + 1) to start
-    lower = let k : i ≡ i - 1 + 1 = omega arith in subst (λ (m : ℕ). Earliest (joined xs (rowOf row) to) m to start) k (scan .earliest)
+    lower : Earliest (lossWithLast xs (rowOf row) to) (i - 1 + 1) to start
+    lower = let k : i ≡ i - 1 + 1 = omega arith in subst (λ (m : ℕ). Earliest (lossWithLast xs (rowOf row) to) m to start) k (scan .earliest)
 
     -- The sum that the code makes is the loss from the next place.
-    joined-is : getD row (i - 1) 0 + v ≡ joined xs (rowOf row) to (i - 1)
-    unfolding joined
+    joined-is : getD row (i - 1) 0 + v ≡ lossWithLast xs (rowOf row) to (i - 1)
+    unfolding lossWithLast
     joined-is = ap (λ (v : ℕ). getD row (i - 1) 0 + v) e
 
     -- The next place is as good: it is taken.
@@ -76,7 +76,7 @@ module _ {xs : List ℤ} {row : List ℕ} {low to : ℕ} where
       above = omega arith;
       below = omega (arith, scan .below);
       is = joined-is;
-      earliest = down-take (joined xs (rowOf row) to) (i - 1) to start lower (omega (arith, joined-is, scan .is));
+      earliest = down-take (lossWithLast xs (rowOf row) to) (i - 1) to start lower (omega (arith, joined-is, scan .is));
     }
 
     -- It is worse: the old place stays.
@@ -85,15 +85,15 @@ module _ {xs : List ℤ} {row : List ℕ} {low to : ℕ} where
       above = omega arith;
       below = omega (arith, scan .below);
       is = scan .is;
-      earliest = down-keep (joined xs (rowOf row) to) (i - 1) to start lower (omega (arith, joined-is, scan .is));
+      earliest = down-keep (lossWithLast xs (rowOf row) to) (i - 1) to start lower (omega (arith, joined-is, scan .is));
     }
 
     -- Its segment's own loss exceeds the least: no place further left can be as good.
     scan-stop : to ≤ length xs → loss < v → Picked xs row low to loss start
-    unfolding joined
+    unfolding lossWithLast
     scan-stop hto h =
         picked (omega (arith, scan .below)) (scan .is)
-        (down-all (joined xs (rowOf row) to) low i to start (scan .earliest) (omega arith)
+        (down-all (lossWithLast xs (rowOf row) to) low i to start (scan .earliest) (omega arith)
         (λ t l u. omega (arith, loss-grows xs t (i - 1) to (omega arith) (omega (arith, scan .below)) hto, scan .is, e)))
 
 abbrev Inv-loop : tie.InvT-loop

@@ -4,8 +4,8 @@ use native.Mathlib.Omega.{arith}
 use borrow.Author.Tests.{not-true, not-false}
 use Rattle.path.specs.declared.Kept.{Kept}
 use Rattle.path.specs.Model.{model}
-use Rattle.path.specs.Append.{outcome}
-use Rattle.path.specs.declared.Appended.{Appended}
+use Rattle.path.specs.Append.{pathOutcome}
+use Rattle.path.specs.declared.PathResult.{PathResult}
 use Rattle.path.proofs.Order.{acceptable, room-parts}
 use Rattle.path.proofs.Cases.{input-refused, room-refused, accepted}
 use borrow.Author.Needs.{needs}
@@ -27,7 +27,7 @@ same-length-2 c = search needs
 returns : tie.Need-returns
 returns c =
     let a = c .before .before .before .before .before .before .before .args in
-    ap (λ (r : Appended). outcome r (a .sizes .now) (a .losses .now)) (c .refuse .ensures)
+    ap (λ (r : PathResult). pathOutcome r (a .sizes .now) (a .losses .now)) (c .refuse .ensures)
     ∙ input-refused (a .sizes .now) (a .losses .now) (a .entries) (model (a .size) (a .loss)) (c .before .before .input-refusal .result) (c .before .before .input-refusal .ensures) (c .before .if1 .taken)
 
 try-model-requires : tie.Need-try-model-requires
@@ -49,7 +49,7 @@ returns-2 : tie.Need-returns-2
 returns-2 c =
     let a = c .before .before .before .before .before .before .before .before .before .before .before .before .args in
     let found = c .before .before .before .try-model in
-    ap (λ (r : Appended). outcome r (a .sizes .now) (a .losses .now)) (c .refuse2 .ensures)
+    ap (λ (r : PathResult). pathOutcome r (a .sizes .now) (a .losses .now)) (c .refuse2 .ensures)
     ∙ room-refused (a .sizes .now) (a .losses .now) (a .entries) (model (a .size) (a .loss)) (sym (c .before .before .before .before .before .before .before .input-refusal .ensures) ∙ c .before .before .before .before .before .before .if1 .left) (found .result .entries) (ap (λ (x : Kept). x .entries) (found .ensures)) (sym (c .before .before .has-room .ensures) ∙ not-true _ (c .before .if2 .taken))
 
 store-requires : tie.Need-store-requires

@@ -4,7 +4,7 @@ use mathlib.Core.Logic.{⊎-elim}
 use Prim.Native.Nat.{ℕ, _-_, _≤_}
 use native.Mathlib.Omega.{arith}
 use Rattle.path.specs.Buffer.{Held}
-use Rattle.path.specs.Append.{outcome}
+use Rattle.path.specs.Append.{pathOutcome}
 use Rattle.signal.specs.Signal.{signalPath}
 use Rattle.signal.proofs.Paths.{held-start, turned}
 use Rattle.signal.proofs.fill_path.Statement.{statement}
@@ -44,7 +44,7 @@ loop-again c =
     let a = c .before .before .before .before .before .before .before .before .before .before .before .before .before .before .before .args in
     let lp = c .before .before .before .before .before .before .before .before .before .before .before .loop in
     let r = c .before .before .before .before .before .before .append in
-    let t = turned (a .samples .now) (a .losses .now) (a .count) (a .path-sizes .now) (a .path-losses .now) (lp .path-sizes) (lp .path-losses) (lp .entries) (lp .i) (c .before .before .before .before .before .before .before .before .before .before .before .before .before .before .before .pre) (c .before .before .before .before .before .before .before .before .before .before .loop-test .taken) (lp .inv .1) (outcome (r .result) (r .last .0) (r .last .1 .0)) (r .ensures) in
+    let t = turned (a .samples .now) (a .losses .now) (a .count) (a .path-sizes .now) (a .path-losses .now) (lp .path-sizes) (lp .path-losses) (lp .entries) (lp .i) (c .before .before .before .before .before .before .before .before .before .before .before .before .before .before .before .pre) (c .before .before .before .before .before .before .before .before .before .before .loop-test .taken) (lp .inv .1) (pathOutcome (r .result) (r .last .0) (r .last .1 .0)) (r .ensures) in
     (omega arith, ⊎-elim (λ w. rw (w .1) (t .0 (w .0 .taken))) (λ w. rw (w .1) (t .1 (w .0 .left))) (c .if1 .came))
 
 same-length : tie.Need-same-length Inv-loop μ-loop
