@@ -1,91 +1,82 @@
 -- `buildOf` and its checks by cases, and the buffers that an accepted build leaves.
 use mathlib.Core.Path.{_≡_, refl, ap, sym, _∙_}
-use mathlib.Core.Bool.{_&&_}
+use mathlib.Core.Bool.{true, false}
 use mathlib.Core.List.{List, [], _∷_, _++_}
-use Prim.Native.Nat.{ℕ, _+_, _-_, _≤_, _<_}
+use Prim.Native.Nat.{ℕ, _-_, _≤_, _<_}
 use native.Mathlib.Omega.{arith}
 use lib.Dec.{leb}
 use lib.ListN.{length, replicate}
 use borrow.Author.Tests.{le-leb, lt-leb}
 use borrow.Rule.Slice.PartMut.{putMid}
-use Rattle.path.specs.Model.{sizesOf, lossesOf}
-use Rattle.path.specs.Refusal.{Check, check, refusalOf}
-use Rattle.path.specs.Buffer.{overwrittenTo}
-use Rattle.path.specs.Append.{PathOutcome, refused, filled}
-use Rattle.path.proofs.Held.{held-length, sizes-overwritten, losses-overwritten}
-use Rattle.path.proofs.Checks.{check-fails, check-passes, fails-early, passes-on, refusal-is}
-use Rattle.path.proofs.Cases.{refuses, accepts}
-use Rattle.build.specs.Build.{built, builtTests, countOf, listChecks, buildChecks, buildOf}
-use Rattle.build.specs.Fill.{Filled}
-use Rattle.build.proofs.Lists.{list-numbered, fillable}
+use Rattle.path.specs.Refusal.{Check, check, refusalOf, roomFor, maxModels}
+use Rattle.path.specs.Append.{PathOutcome, pathRefused}
+use Rattle.path.proofs.Held.{held-length, held-cleared}
+use Rattle.path.proofs.Checks.{check-fails, check-passes, last-passes, fails-early, passes-on, refuses, accepts, refusal-is}
+use Rattle.build.specs.Build.{built, countOf, listChecks, checksOf, buildChecks, buildLeft, buildOf}
+use Rattle.build.specs.Inner.{BuiltIn}
+use Rattle.build.proofs.Lists.{list-numbered, buildable}
 
--- the refusal of a build by cases
-module _ (a b : List ℕ) (sizesRoom lossesRoom n : ℕ) (e : n ≡ countOf a b) where
-  abbrev count : ℕ
-  count = countOf a b
-
+-- The refusal of a build of n models by cases.
+module _ (a b : List ℕ) (sizesRoom lossesRoom n : ℕ) where
   abbrev room : Check
-  room = check 9 (leb count sizesRoom && leb count lossesRoom)
+  room = check 9 (roomFor n (sizesRoom ∷ lossesRoom ∷ []))
 
-  pub no-models : n ≡ 0 → refusalOf (buildChecks a b sizesRoom lossesRoom) ≡ 1
-  no-models z = check-fails (check 1 (leb 1 count)) _ (lt-leb 1 count (omega arith))
+  abbrev refusal : ℕ
+  refusal = refusalOf (checksOf a b n sizesRoom lossesRoom)
+
+  pub no-models : n ≡ 0 → refusal ≡ 1
+  no-models z = check-fails (check 1 (leb 1 n)) _ (lt-leb 1 n (omega arith))
 
   module _ (some : n ≡ 0 → ⊥) where
-    after-first : refusalOf (buildChecks a b sizesRoom lossesRoom) ≡ refusalOf (check 2 (leb count 4096) ∷ (listChecks a b 0 count ++ (room ∷ [])))
-    after-first = check-passes (check 1 (leb 1 count)) _ (le-leb 1 count (omega (arith, some)))
+    after-first : refusal ≡ refusalOf (check 2 (leb n maxModels) ∷ (listChecks a b 0 n ++ (room ∷ [])))
+    after-first = check-passes (check 1 (leb 1 n)) _ (le-leb 1 n (omega (arith, some)))
 
-    pub too-many : 4096 < n → refusalOf (buildChecks a b sizesRoom lossesRoom) ≡ 2
-    too-many h = after-first ∙ check-fails (check 2 (leb count 4096)) _ (lt-leb count 4096 (omega arith))
+    pub too-many : maxModels < n → refusal ≡ 2
+    too-many h = after-first ∙ check-fails (check 2 (leb n maxModels)) _ (lt-leb n maxModels h)
 
-    module _ (few : n ≤ 4096) where
-      after-second : refusalOf (buildChecks a b sizesRoom lossesRoom) ≡ refusalOf (listChecks a b 0 count ++ (room ∷ []))
-      after-second = after-first ∙ check-passes (check 2 (leb count 4096)) _ (le-leb count 4096 (omega arith))
+    module _ (few : n ≤ maxModels) where
+      after-second : refusal ≡ refusalOf (listChecks a b 0 n ++ (room ∷ []))
+      after-second = after-first ∙ check-passes (check 2 (leb n maxModels)) _ (le-leb n maxModels few)
 
-      pub bad-list : (c : ℕ) → c ≡ refusalOf (listChecks a b 0 n) → (c ≡ 0 → ⊥) → refusalOf (buildChecks a b sizesRoom lossesRoom) ≡ c
-      bad-list c f h =
-          let g : c ≡ refusalOf (listChecks a b 0 count) = f ∙ ap (λ (k : ℕ). refusalOf (listChecks a b 0 k)) e in
-          after-second ∙ fails-early (listChecks a b 0 count) (room ∷ []) (λ z. h (g ∙ z)) ∙ sym g
+      pub bad-list : (c : ℕ) → c ≡ refusalOf (listChecks a b 0 n) → (c ≡ 0 → ⊥) → refusal ≡ c
+      bad-list c e h = after-second ∙ fails-early (listChecks a b 0 n) (room ∷ []) (list-numbered a b n 0) (λ z. h (e ∙ z)) ∙ sym e
 
       module _ (good : refusalOf (listChecks a b 0 n) ≡ 0) where
-        room-decides : refusalOf (buildChecks a b sizesRoom lossesRoom) ≡ refusalOf (room ∷ [])
-        room-decides =
-            after-second ∙ passes-on (listChecks a b 0 count) (room ∷ []) (list-numbered a b count 0) (sym (ap (λ (k : ℕ). refusalOf (listChecks a b 0 k)) e) ∙ good)
+        room-decides : refusal ≡ refusalOf (room ∷ [])
+        room-decides = after-second ∙ passes-on (listChecks a b 0 n) (room ∷ []) (list-numbered a b n 0) good
 
-        pub no-sizes-room : sizesRoom < n → refusalOf (buildChecks a b sizesRoom lossesRoom) ≡ 9
-        no-sizes-room h = room-decides ∙ check-fails room [] (rw (lt-leb count sizesRoom (omega arith)))
+        pub no-room : roomFor n (sizesRoom ∷ lossesRoom ∷ []) ≡ false → refusal ≡ 9
+        no-room h = room-decides ∙ check-fails room [] h
 
-        pub no-losses-room : n ≤ sizesRoom → lossesRoom < n → refusalOf (buildChecks a b sizesRoom lossesRoom) ≡ 9
-        no-losses-room g h =
-            room-decides ∙ check-fails room [] (rw (le-leb count sizesRoom (omega arith), lt-leb count lossesRoom (omega arith)))
+        pub all-pass : roomFor n (sizesRoom ∷ lossesRoom ∷ []) ≡ true → refusal ≡ 0
+        all-pass h = room-decides ∙ last-passes room h
 
-        pub all-pass : n ≤ sizesRoom → n ≤ lossesRoom → refusalOf (buildChecks a b sizesRoom lossesRoom) ≡ 0
-        unfolding refusalOf
-        all-pass g h =
-            room-decides ∙ check-passes room [] (rw (le-leb count sizesRoom (omega arith), le-leb count lossesRoom (omega arith)))
-
+-- `buildOf` by the refusal that its checks give.
 module _ (a b s₀ l₀ : List ℕ) where
-  pub build-refused : (c : ℕ) → c ≡ refusalOf (buildChecks a b (length s₀) (length l₀)) → (c ≡ 0 → ⊥) → refused c s₀ l₀ ≡ buildOf a b s₀ l₀
-  unfolding buildOf
-  build-refused c e h = refuses (λ c. refused c s₀ l₀) _ (buildChecks a b (length s₀) (length l₀)) c e h
+  abbrev checks : List Check
+  checks = buildChecks a b (length s₀) (length l₀)
 
-  pub build-refusal : buildOf a b s₀ l₀ .refusal ≡ refusalOf (buildChecks a b (length s₀) (length l₀))
+  pub build-refused : (c : ℕ) → c ≡ refusalOf checks → (c ≡ 0 → ⊥) → pathRefused s₀ l₀ c ≡ buildOf a b s₀ l₀
   unfolding buildOf
-  build-refusal = refusal-is (λ (o : PathOutcome). o .refusal) _ _ (refusalOf (buildChecks a b (length s₀) (length l₀))) refl refl
+  build-refused c e h = refuses checks (pathRefused s₀ l₀) _ c e h
 
-  pub build-filled : refusalOf (buildChecks a b (length s₀) (length l₀)) ≡ 0 → filled (built a b (countOf a b)) (builtTests a b (countOf a b)) (countOf a b) s₀ l₀ ≡ buildOf a b s₀ l₀
+  pub build-refusal : buildOf a b s₀ l₀ .refusal ≡ refusalOf checks
   unfolding buildOf
-  build-filled h = accepts (λ c. refused c s₀ l₀) _ (buildChecks a b (length s₀) (length l₀)) h
+  build-refusal = refusal-is checks (pathRefused s₀ l₀) _ (λ (o : PathOutcome). o .refusal) refl (λ c. refl)
 
-  pub build-done : refusalOf (buildChecks a b (length s₀) (length l₀)) ≡ 0 → (s l s' l' : List ℕ) (k t : ℕ) → Filled a b s₀ l₀ s l k t (length a)
+  pub build-accepted : refusalOf checks ≡ 0 → buildLeft a b (countOf a b) s₀ l₀ ≡ buildOf a b s₀ l₀
+  unfolding buildOf
+  build-accepted h = accepts checks (pathRefused s₀ l₀) _ h
+
+  pub build-done : refusalOf checks ≡ 0 → (s l s' l' : List ℕ) (k t : ℕ) → BuiltIn a b s₀ l₀ s l k t (length a)
       → s' ≡ putMid k (length a - k) s (replicate (length a - k) 0) → l' ≡ putMid k (length a - k) l (replicate (length a - k) 0)
       → record { refusal = 0; entries = k; tests = t; sizes = s'; losses = l' } ≡ buildOf a b s₀ l₀
   build-done h s l s' l' k t f x y =
       let n = length a in
       let path = built a b n in
-      let ok = fillable a b (length s₀) (length l₀) h in
+      let ok = buildable a b (length s₀) (length l₀) h in
       let entries : length path ≡ k = held-length path s₀ l₀ s l k n (f .held) in
-      let sizes : putMid k (n - k) s (replicate (n - k) 0) ≡ overwrittenTo (sizesOf path) n s₀ = sizes-overwritten path s₀ l₀ s l k n (f .held) (ok .1 .sizes-fit) (ok .1 .losses-fit) in
-      let losses : putMid k (n - k) l (replicate (n - k) 0) ≡ overwrittenTo (lossesOf path) n l₀ = losses-overwritten path s₀ l₀ s l k n (f .held) (ok .1 .sizes-fit) (ok .1 .losses-fit) in
-      let done : record { refusal = 0; entries = k; tests = t; sizes = s'; losses = l' } ≡ filled (built a b (countOf a b)) (builtTests a b (countOf a b)) (countOf a b) s₀ l₀ =
-      rw (ok .0, x, y, sizes, losses, entries, f .counted) in
-      done ∙ build-filled h
+      let cleared = held-cleared path s₀ l₀ s l k n (f .held) (ok .1 .sizes-fit) (ok .1 .losses-fit) in
+      let done : record { refusal = 0; entries = k; tests = t; sizes = s'; losses = l' } ≡ buildLeft a b (countOf a b) s₀ l₀ =
+      rw (ok .0, x, y, cleared .0, cleared .1, entries, f .counted) in
+      done ∙ build-accepted h

@@ -10,14 +10,14 @@ use lib.Dec.{ltb, leb}
 use lib.ListN.{length}
 use borrow.Author.Tests.{lt-ltb, le-ltb, ltb-true, leb-true}
 use Rattle.path.specs.Model.{Model, modelAt, pathOf}
-use Rattle.path.specs.Refusal.{check, refusalOf, modelChecks, sizeAbove, lossBelow}
-use Rattle.path.proofs.Checks.{numbered, both, check-fails, check-passes, passed, fails-early, passes-on, both-pass}
+use Rattle.path.specs.Refusal.{check, refusalOf, roomFor, maxModels, modelChecks, sizeAbove, lossBelow}
+use Rattle.path.proofs.Checks.{numbered, both, check-fails, check-passes, passed, fails-early, passes-on, both-pass, room-parts}
 use Rattle.path.proofs.Order.{Passes, model-passes}
 use Rattle.build.specs.Build.{built, countOf, checksAt, listChecks, buildChecks}
-use Rattle.build.specs.Fill.{Fillable}
+use Rattle.build.specs.Inner.{Buildable}
 
 module _ (a b : List ℕ) where
-  -- the checks of one model
+  -- The checks of one model.
   pub lacks-size : (i : ℕ) → length a ≤ i → refusalOf (checksAt a b i) ≡ 5
   lacks-size i h = check-fails (check 5 (ltb i (length a) && ltb i (length b))) _ (rw (le-ltb i (length a) h))
 
@@ -29,7 +29,7 @@ module _ (a b : List ℕ) where
   lacks-nothing i g h =
       check-passes (check 5 (ltb i (length a) && ltb i (length b))) _ (rw (lt-ltb i (length a) g, lt-ltb i (length b) h))
 
-  -- the checks of the models from i on
+  -- The checks of the models from i on.
   checks-split : (i m : ℕ) → listChecks a b i (suc m) ≡ checksAt a b i ++ listChecks a b (suc i) m
   unfolding listChecks
   checks-split i m = refl
@@ -41,7 +41,7 @@ module _ (a b : List ℕ) where
   pub bad-model : (i m c : ℕ) → 0 < m → refusalOf (checksAt a b i) ≡ c → (c ≡ 0 → ⊥) → refusalOf (listChecks a b i m) ≡ c
   bad-model i zero c h e f = absurd (not-suc-le-zero h)
   bad-model i (suc m) c h e f =
-      ap refusalOf (checks-split i m) ∙ fails-early (checksAt a b i) (listChecks a b (suc i) m) (λ z. f (sym e ∙ z)) ∙ e
+      ap refusalOf (checks-split i m) ∙ fails-early (checksAt a b i) (listChecks a b (suc i) m) refl (λ z. f (sym e ∙ z)) ∙ e
 
   pub good-model : (i m m' : ℕ) → m ≡ suc m' → refusalOf (checksAt a b i) ≡ 0 → refusalOf (listChecks a b i m) ≡ refusalOf (listChecks a b (i + 1) m')
   good-model i m m' q e =
@@ -56,17 +56,17 @@ module _ (a b : List ℕ) where
       let e : i + suc k ≡ suc i + k = omega arith in
       rw e (later-passes m (suc i) k (both-pass (checksAt a b i) (listChecks a b (suc i) m) refl (sym (ap refusalOf (checks-split i m)) ∙ h) .1) (omega arith))
 
-  -- in a list without a bad model each passes
+  -- In a list without a bad model each passes.
   pub each-passes : (n k : ℕ) → refusalOf (listChecks a b 0 n) ≡ 0 → k < n → refusalOf (checksAt a b k) ≡ 0
   each-passes n k h p = let e : 0 + k ≡ k = omega arith in subst (λ (j : ℕ). refusalOf (checksAt a b j) ≡ 0) e (later-passes n 0 k h p)
 
-  -- the path's last entry is the model before, so that a model is checked against either alike
+  -- The path's last entry is the model before, so that a model is checked against either alike.
   pub same-checks : (i : ℕ) (m : Model) → refusalOf (modelChecks (built a b i) m) ≡ refusalOf (modelChecks (pathOf a b i) m)
   unfolding built pathOf sizeAbove lossBelow
   same-checks zero m = refl
   same-checks (suc i) m = refl
 
-  -- model k of a list without a bad one, against the path before it
+  -- Model k of a list without a bad one passes against the path before it.
   pub model-ready : (n k : ℕ) → refusalOf (listChecks a b 0 n) ≡ 0 → k < n → (k < length a) × (k < length b) × Passes (built a b k) (modelAt a b k)
   model-ready n k h p =
       let e = passed (check 5 (ltb k (length a) && ltb k (length b))) (modelChecks (pathOf a b k) (modelAt a b k)) (omega arith) (each-passes n k h p) in
@@ -78,19 +78,19 @@ module _ (a b : List ℕ) where
   list-numbered zero i = refl
   list-numbered (suc m) i = list-numbered m (suc i)
 
--- an accepted build: both lists have as many items, none is bad, and both buffers have room
-pub fillable : (a b : List ℕ) (m n : ℕ) → refusalOf (buildChecks a b m n) ≡ 0 → (countOf a b ≡ length a) × Fillable a b m n
-fillable a b m n h =
+-- What an accepted build tells: both lists have as many items, none is bad, and both buffers have room.
+pub buildable : (a b : List ℕ) (m n : ℕ) → refusalOf (buildChecks a b m n) ≡ 0 → (countOf a b ≡ length a) × Buildable a b m n
+buildable a b m n h =
     let count = countOf a b in
-    let room = check 9 (leb count m && leb count n) in
+    let room = check 9 (roomFor count (m ∷ n ∷ [])) in
     let some = passed (check 1 (leb 1 count)) _ (omega arith) h in
-    let limit = passed (check 2 (leb count 4096)) _ (omega arith) (some .1) in
+    let limit = passed (check 2 (leb count maxModels)) _ (omega arith) (some .1) in
     let models = both-pass (listChecks a b 0 count) (room ∷ []) (list-numbered a b count 0) (limit .1) in
-    let rooms = both (leb count m) (leb count n) (passed room [] (omega arith) (models .1) .0) in
+    let rooms = room-parts count (m ∷ n ∷ []) (passed room [] (omega arith) (models .1) .0) in
     let positive = leb-true 1 count (some .0) in
-    let few = leb-true count 4096 (limit .0) in
-    let in-m = leb-true count m (rooms .0) in
-    let in-n = leb-true count n (rooms .1) in
+    let few = leb-true count maxModels (limit .0) in
+    let in-m = rooms .0 in
+    let in-n = rooms .1 .0 in
     let last = model-ready a b count (count - 1) (models .0) (omega arith) in
     let e : count ≡ length a = omega arith in (
       e,

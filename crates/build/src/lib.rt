@@ -1,5 +1,5 @@
-// A path from a list of sizes and a list of losses. Each model is pushed on the path in turn by the scan that append uses,
-// so that the whole is linear in the number of models.
+// A path from a list of sizes and a list of losses. Each model is pushed on the path in turn by the scan that an append uses, so
+// that the whole is linear in the number of models.
 
 ghost use mathlib.Core.Path.{_≡_};
 ghost use Prim.Native.Nat.{max};
@@ -7,9 +7,11 @@ ghost use lib.ListN.{length};
 ghost use Rattle.path.specs.Refusal.{refusalOf};
 ghost use Rattle.path.specs.Append.{pathOutcome};
 ghost use Rattle.build.specs.Build.{listChecks, buildChecks, buildOf};
-ghost use Rattle.build.specs.Fill.{Fillable, Filled};
+ghost use Rattle.build.specs.Inner.{Buildable, BuiltIn};
 use path::Kept;
+use path::MAX_MODELS;
 use path::PathResult;
+use path::tally;
 
 // The refusal of the first of so many models that is bad: 5, 6 or 7, or 0.
 fn list_refusal(sizes: &[u64], losses: &[u64], count: usize) -> u64
@@ -41,23 +43,21 @@ fn larger(a: usize, b: usize) -> usize
 
 // The refusal of a build into buffers of two lengths: the first of 1, 2, 5, 6, 7 and 9, or 0.
 fn build_refusal(sizes: &[u64], losses: &[u64], sizes_room: usize, losses_room: usize) -> u64
-    ensures { λ r. ⌜ r ≡ refusalOf (buildChecks (now (sizes .entry)) (now (losses .entry)) «sizes_room» «losses_room») ⌝ }
+    ensures { λ r. ⌜ r ≡ refusalOf
+        (buildChecks (now (sizes .entry)) (now (losses .entry)) «sizes_room» «losses_room») ⌝ }
 {
     let count = larger(sizes.len(), losses.len());
     if count == 0 {
         return 1;
     }
-    if 4096 < count {
+    if MAX_MODELS < count {
         return 2;
     }
     let refusal = list_refusal(sizes, losses, count);
     if refusal != 0 {
         return refusal;
     }
-    if sizes_room < count {
-        return 9;
-    }
-    if losses_room < count {
+    if !path::has_room(count, sizes_room, losses_room) {
         return 9;
     }
     0
@@ -65,21 +65,25 @@ fn build_refusal(sizes: &[u64], losses: &[u64], sizes_room: usize, losses_room: 
 
 // Pushes the models one by one. The path stands at the front of the buffers, and places past the models stay.
 fn fill(sizes: &[u64], losses: &[u64], path_sizes: &mut [u64], path_losses: &mut [u64]) -> Kept
-    requires { ⌜ Fillable (now sizes) (now losses) (length (now «path_sizes»)) (length (now «path_losses»)) ⌝ }
-    ensures { λ r. ⌜ Filled (now (sizes .entry)) (now (losses .entry)) (now («path_sizes» .entry)) (now («path_losses» .entry)) (now («path_sizes» .exit)) (now («path_losses» .exit)) (r .entries) (r .tests) (length (now (sizes .entry))) ⌝ }
+    requires { ⌜ Buildable (now sizes) (now losses) (length (now «path_sizes»)) (length (now «path_losses»)) ⌝ }
+    ensures { λ r. ⌜ BuiltIn
+        (now (sizes .entry)) (now (losses .entry))
+        (now («path_sizes» .entry)) (now («path_losses» .entry))
+        (now («path_sizes» .exit)) (now («path_losses» .exit))
+        (r .entries) (r .tests .count) (length (now (sizes .entry))) ⌝ }
 {
     let mut entries: usize = 0;
-    let mut tests: u64 = 0;
+    let mut tests = tally::none();
     let mut i = 0;
     while i < sizes.len() {
         let size = sizes[i];
         let loss = losses[i];
-        let found = path::try_model(path_sizes, path_losses, entries, size, loss);
+        let found = path::try_model(path_sizes, path_losses, entries, size, loss, tests);
         let kept = found.entries;
         path_sizes[kept] = size;
         path_losses[kept] = loss;
         entries = kept + 1;
-        tests += found.tests;
+        tests = found.tests;
         i += 1;
     }
     Kept {
@@ -95,7 +99,10 @@ pub fn build(
     path_sizes: &mut [u64],
     path_losses: &mut [u64],
 ) -> PathResult
-    ensures { λ r. ⌜ pathOutcome r (now («path_sizes» .exit)) (now («path_losses» .exit)) ≡ buildOf (now (sizes .entry)) (now (losses .entry)) (now («path_sizes» .entry)) (now («path_losses» .entry)) ⌝ }
+    ensures { λ r. ⌜ pathOutcome r (now («path_sizes» .exit)) (now («path_losses» .exit))
+        ≡ buildOf
+        (now (sizes .entry)) (now (losses .entry))
+        (now («path_sizes» .entry)) (now («path_losses» .entry)) ⌝ }
 {
     let refusal = build_refusal(sizes, losses, path_sizes.len(), path_losses.len());
     if refusal != 0 {
@@ -106,9 +113,10 @@ pub fn build(
     let end = made.entries;
     path::clear(&mut path_sizes[end..count]);
     path::clear(&mut path_losses[end..count]);
+    let tests = made.tests;
     PathResult {
         refusal: 0,
         entries: end,
-        tests: made.tests,
+        tests: tests,
     }
 }

@@ -3,18 +3,18 @@ use mathlib.Core.Path.{_≡_, refl}
 use mathlib.Core.Bool.{true, false, _&&_}
 use mathlib.Core.Logic.{⊎-elim}
 use mathlib.Core.List.{List, [], _∷_}
-use Prim.Native.Nat.{ℕ, zero, suc, _≤_, _<_}
+use Prim.Native.Nat.{ℕ, zero, suc, _^_, _≤_, _<_}
 use native.Mathlib.Nat.{eq-or-lt-of-le}
 use native.Mathlib.Omega.{arith}
 use lib.Dec.{ltb, leb}
 use lib.ListN.{getD, length}
-use borrow.Author.Tests.{ltb-true, leb-true, le-leb}
+use borrow.Author.Tests.{ltb-true, leb-true}
 use Rattle.path.specs.Model.{Model, modelAt, pathOf}
-use Rattle.path.specs.Refusal.{maxSize, maxLoss, inRange, follows, ordered, validPath, sizeAbove, lossBelow, check, modelChecks, refusalOf, roomFor}
-use Rattle.path.specs.Scan.{Scannable}
-use Rattle.path.proofs.Checks.{both, passed, check-fails}
+use Rattle.path.specs.Refusal.{maxSize, maxLoss, maxModels, inRange, follows, ordered, pathRoom, validPath, sizeAbove, lossBelow, check, modelChecks, refusalOf}
+use Rattle.path.specs.Inner.{Scannable}
+use Rattle.path.proofs.Checks.{both, passed, check-fails, room-parts, room-whole}
 
--- a model in range
+-- What a model in range tells.
 pub record Within (m : Model) : Type 0 where
   pub positive : 1 ≤ m .size
   pub small : m .size ≤ maxSize
@@ -26,7 +26,7 @@ within m h =
     let b = both (leb 1 (m .size)) (leb (m .size) maxSize) (a .0) in
     record { positive = leb-true _ _ (b .0); small = leb-true _ _ (b .1); low = leb-true _ _ (a .1) }
 
--- d comes before e: a smaller size and a larger loss
+-- The model d comes before e: it has a smaller size and a larger loss.
 pub record Before (d e : Model) : Type 0 where
   pub sizes : d .size < e .size
   pub losses : e .loss < d .loss
@@ -39,7 +39,12 @@ follows-before d e h =
     let a = both (ltb (d .size) (e .size)) (ltb (e .loss) (d .loss)) h in
     record { sizes = ltb-true _ _ (a .0); losses = ltb-true _ _ (a .1) }
 
--- an ordered path taken apart at its last entry
+-- The model m comes after the last entry.
+abbrev pub After : List Model → Model → Type 0
+After [] m = Unit {0}
+After (e ∷ r) m = Before e m
+
+-- An ordered path is taken apart at its last entry.
 pub ordered-parts : (e d : Model) (r : List Model) → ordered (e ∷ d ∷ r) ≡ true → (inRange e ≡ true) × (follows d e ≡ true) × (ordered (d ∷ r) ≡ true)
 unfolding ordered
 ordered-parts e d r h =
@@ -63,17 +68,17 @@ module _ (s l : List ℕ) where
   ordered-front (suc n) k h p =
       ⊎-elim (λ (e : k ≡ suc n). rw e h) (λ (q : k < suc n). ordered-front n k (ordered-shorter n h) (omega arith)) (eq-or-lt-of-le p)
 
-  -- neighbours of an ordered path
+  -- Neighbours of an ordered path come one before the other.
   pub ordered-near : (n i : ℕ) → ordered (pathOf s l n) ≡ true → suc i < n → Before (modelAt s l i) (modelAt s l (suc i))
   unfolding pathOf
   ordered-near n i h p =
       follows-before (modelAt s l i) (modelAt s l (suc i)) (ordered-parts (modelAt s l (suc i)) (modelAt s l i) (pathOf s l i) (ordered-front n (suc (suc i)) h p) .1)
 
-  -- an entry of an ordered path
+  -- An entry of an ordered path is in range.
   pub ordered-within : (n i : ℕ) → ordered (pathOf s l n) ≡ true → i < n → Within (modelAt s l i)
   ordered-within n i h p = within (modelAt s l i) (last-in-range i (ordered-front n (suc i) h p))
 
-  -- an entry and the last one
+  -- No entry of an ordered path has a larger size or a smaller loss than the last one.
   pub ordered-ends : (n i : ℕ) → ordered (pathOf s l (suc n)) ≡ true → i ≤ n → (getD s i 0 ≤ getD s n 0) × (getD l n 0 ≤ getD l i 0)
   ordered-ends zero i h p = let e : i ≡ 0 = omega arith in rw e (omega arith, omega arith)
   ordered-ends (suc n) i h p =
@@ -81,27 +86,27 @@ module _ (s l : List ℕ) where
       ⊎-elim (λ (e : i ≡ suc n). rw e (omega arith, omega arith))
       (λ (q : i < suc n). let b = ordered-ends n i (ordered-shorter (suc n) h) (omega arith) in (omega arith, omega arith)) (eq-or-lt-of-le p)
 
--- a valid path taken apart
+-- What a valid path tells.
 pub record Valid (s l : List ℕ) (n : ℕ) : Type 0 where
   pub in-sizes : n ≤ length s
   pub in-losses : n ≤ length l
-  pub few : n ≤ 4096
+  pub few : n ≤ maxModels
   pub order : ordered (pathOf s l n) ≡ true
 
 pub valid-parts : (s l : List ℕ) (n : ℕ) → validPath s l n ≡ true → Valid s l n
 unfolding validPath
 valid-parts s l n h =
-    let a = both (leb n (length s) && leb n (length l) && leb n 4096) _ h in
-    let b = both (leb n (length s) && leb n (length l)) _ (a .0) in
-    let d = both (leb n (length s)) _ (b .0) in
-    record { in-sizes = leb-true _ _ (d .0); in-losses = leb-true _ _ (d .1); few = leb-true _ _ (b .1); order = a .1 }
+    let a = both (pathRoom s l n) _ h in
+    let r = room-parts n (length s ∷ length l ∷ maxModels ∷ []) (a .0) in
+    record { in-sizes = r .0; in-losses = r .1 .0; few = r .1 .1 .0; order = a .1 }
 
--- and put together
+-- What makes a path valid.
 pub valid-whole : (s l : List ℕ) (n : ℕ) → Valid s l n → validPath s l n ≡ true
 unfolding validPath
-valid-whole s l n h = rw (le-leb n (length s) (h .in-sizes), le-leb n (length l) (h .in-losses), le-leb n 4096 (h .few)) (h .order)
+valid-whole s l n h =
+    rw (room-whole n (length s ∷ length l ∷ maxModels ∷ []) (h .in-sizes, (h .in-losses, (h .few, tt)))) (h .order)
 
--- a model that passes its checks
+-- What a model that passes its checks tells.
 pub record Passes (st : List Model) (m : Model) : Type 0 where
   pub range : inRange m ≡ true
   pub size : sizeAbove st m ≡ true
@@ -118,12 +123,13 @@ pub model-accepted : (st : List Model) (m : Model) → Passes st m → refusalOf
 unfolding refusalOf
 model-accepted st m p = rw (p .range, p .size, p .loss)
 
--- then it comes after the last entry
-pub passes-before : (e : Model) (r : List Model) (m : Model) → Passes (e ∷ r) m → Before e m
+-- Then it comes after the last entry.
+pub passes-after : (path : List Model) (m : Model) → Passes path m → After path m
 unfolding sizeAbove lossBelow
-passes-before e r m p = record { sizes = ltb-true _ _ (p .size); losses = ltb-true _ _ (p .loss) }
+passes-after [] m p = tt
+passes-after (e ∷ r) m p = record { sizes = ltb-true _ _ (p .size); losses = ltb-true _ _ (p .loss) }
 
--- the input of an append that 8, 5, 6 and 7 let pass
+-- What the input of an append tells that 8, 5, 6 and 7 let pass.
 pub record Acceptable (s l : List ℕ) (n : ℕ) (m : Model) : Type 0 where
   pub valid : Valid s l n
   pub passes : Passes (pathOf s l n) m
@@ -133,17 +139,20 @@ acceptable s l n m h =
     let a = passed (check 8 (validPath s l n)) (modelChecks (pathOf s l n) m) (omega arith) h in
     record { valid = valid-parts s l n (a .0); passes = model-passes (pathOf s l n) m (a .1) }
 
--- such an input is ready for the scan
-ready-more : (s l : List ℕ) (n : ℕ) (m : Model) → Acceptable s l (suc n) m → Scannable s l (suc n) (m .size) (m .loss)
+-- Such an input and a small tally are ready for the scan.
+pub scannable : (s l : List ℕ) (n : ℕ) (m : Model) (tests : ℕ) → (n ≡ 0 → ⊥) → Acceptable s l n m → tests < 2 ^ 32 → Scannable s l n (m .size) (m .loss) tests
 unfolding pathOf
-ready-more s l n m h =
+scannable s l zero m tests z h t = absurd (z refl)
+scannable s l (suc n) m tests z h t =
     let v = h .valid in
-    let b = passes-before (modelAt s l n) (pathOf s l n) m (h .passes) in
+    let f = v .few in
+    let b = passes-after (modelAt s l n ∷ pathOf s l n) m (h .passes) in
     let w = within m (h .passes .range) in
     record {
       some = omega arith;
       in-sizes = v .in-sizes;
       in-losses = v .in-losses;
+      countable = omega arith;
       near = λ i p.
           let near = ordered-near s l (suc n) i (v .order) p in
           let ends = ordered-ends s l n (suc i) (v .order) (omega arith) in
@@ -157,35 +166,16 @@ ready-more s l n m h =
           };
     }
 
-pub ready : (s l : List ℕ) (n : ℕ) (m : Model) → (n ≡ 0 → ⊥) → Acceptable s l n m → Scannable s l n (m .size) (m .loss)
-ready s l zero m z h = absurd (z refl)
-ready s l (suc n) m z h = ready-more s l n m h
-
--- ---- the refusal of a model by cases
+-- A model out of range is refused with 5.
 pub out-of-range : (st : List Model) (m : Model) → inRange m ≡ false → refusalOf (modelChecks st m) ≡ 5
 out-of-range st m h = check-fails (check 5 (inRange m)) _ h
 
+-- The first model in range is accepted.
 pub first-model : (s l : List ℕ) (n : ℕ) (m : Model) → inRange m ≡ true → n ≡ 0 → refusalOf (modelChecks (pathOf s l n) m) ≡ 0
 unfolding pathOf sizeAbove lossBelow refusalOf
 first-model s l n m h e = rw (e, h)
 
--- after a path of entries 0 to b
+-- After a path of entries 0 to b a model in range is refused by its size, then by its loss.
 pub later-model : (s l : List ℕ) (n b : ℕ) (m : Model) → inRange m ≡ true → n ≡ suc b → refusalOf (modelChecks (pathOf s l n) m) ≡ refusalOf (check 6 (ltb (getD s b 0) (m .size)) ∷ check 7 (ltb (m .loss) (getD l b 0)) ∷ [])
 unfolding pathOf sizeAbove lossBelow refusalOf
 later-model s l n b m h e = rw (e, h)
-
--- room for k entries and one more
-pub record Room (s l : List ℕ) (k : ℕ) : Type 0 where
-  pub in-sizes : k < length s
-  pub in-losses : k < length l
-  pub few : k < 4096
-
-pub room-parts : (s l : List ℕ) (k : ℕ) → roomFor s l (suc k) ≡ true → Room s l k
-room-parts s l k h =
-    let a = both (leb (suc k) (length s) && leb (suc k) (length l)) _ h in
-    let b = both (leb (suc k) (length s)) _ (a .0) in
-    record { in-sizes = leb-true _ _ (b .0); in-losses = leb-true _ _ (b .1); few = leb-true _ _ (a .1) }
-
--- and put together
-pub room-whole : (s l : List ℕ) (k : ℕ) → Room s l k → roomFor s l (suc k) ≡ true
-room-whole s l k h = rw (le-leb (suc k) (length s) (h .in-sizes), le-leb (suc k) (length l) (h .in-losses), le-leb (suc k) 4096 (h .few))

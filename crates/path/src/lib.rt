@@ -1,72 +1,65 @@
-// The path of models: which sizes can be the cheapest at some penalty. A path lies in two lent lists, sizes and losses,
-// its first entry first. An append tries a new model against the entries from the last one back.
+// The path of models: which sizes can be the cheapest at some penalty. A path lies in two lent lists, sizes and losses, its first
+// entry first. An append tries a new model against the entries from the last one back.
 
 ghost use mathlib.Core.Path.{_≡_};
 ghost use mathlib.Core.List.{_∷_, [], _++_};
-ghost use Prim.Native.Nat.{suc, _≤_, _<_};
-ghost use lib.Dec.{leb};
-ghost use mathlib.Core.Bool.{_&&_};
+ghost use Prim.Native.Nat.{_+_, _^_, _≤_, _<_};
 ghost use lib.ListN.{length, take, replicate};
 ghost use Rattle.path.specs.Model.{model, pathOf};
-ghost use Rattle.path.specs.Update.{holds};
-ghost use Rattle.path.specs.Refusal.{inRange, follows, ordered, validPath, check, modelChecks, refusalOf};
+ghost use Rattle.path.specs.Refusal.{inRange, follows, ordered, validPath, maxModels, roomFor, check, modelChecks, refusalOf};
 ghost use Rattle.path.specs.Buffer.{overwrittenTo};
-ghost use Rattle.path.specs.Append.{pathOutcome, refusedWith, appendOf};
-ghost use Rattle.path.specs.Scan.{Comparable, Scannable, keptOf};
+ghost use Rattle.path.specs.Append.{pathOutcome, pathRefused, appendOf};
+ghost use Rattle.path.specs.Inner.{Scannable, keptOf, tallyOf};
 
-// What a new model keeps of a path: the number of entries that stay, and the tests that this took.
+pub mod tally;
+
+use tally::Tally;
+
+// The largest size.
+pub const MAX_SIZE: u64 = 65535;
+
+// The largest loss is 2^44.
+pub const MAX_LOSS: u64 = 17592186044416;
+
+// The most models at a time, and so the most entries of a path.
+pub const MAX_MODELS: usize = 4096;
+
+// What a new model keeps of a path: the number of entries that stay, and the tests made so far.
 pub struct Kept {
     pub entries: usize,
-    pub tests: u64,
+    pub tests: Tally,
 }
 
-// The answer of an append or a build: the refusal, 0 where it is accepted, and else zeros after it.
+// The answer of an append or a build: the refusal, which is 0 where the call is accepted and else has zeros after it, the number
+// of entries, and the tests.
 #[repr(C)]
 pub struct PathResult {
     pub refusal: u64,
     pub entries: usize,
-    pub tests: u64,
+    pub tests: Tally,
 }
 
-// Whether the candidate at entry 1 is less than the breakpoint between entries 0 and 1. No product exceeds 2^60.
-fn candidate_below(size0: u64, loss0: u64, size1: u64, loss1: u64, size: u64, loss: u64) -> bool
-    requires { ⌜ Comparable size0 loss0 size1 loss1 size loss ⌝ }
-    ensures { λ r. ⌜ r ≡ holds (model size0 loss0) (model size1 loss1) (model size loss) ⌝ }
-{
-    (loss1 - loss) * (size1 - size0) < (loss0 - loss1) * (size - size1)
-}
-
-// Tries a model from the last entry back, until a test holds; at the first entry it does. Each turn makes one test.
-fn scan(sizes: &[u64], losses: &[u64], entries: usize, size: u64, loss: u64) -> Kept
-    requires { ⌜ Scannable (now sizes) (now losses) entries size loss ⌝ }
-    ensures { λ r. ⌜ r ≡ keptOf (pathOf (now (sizes .entry)) (now (losses .entry)) entries) (model size loss) ⌝ }
+// Tries a model from the last entry back, until a test holds. Each turn makes one test.
+fn scan(sizes: &[u64], losses: &[u64], entries: usize, size: u64, loss: u64, start: Tally) -> Kept
+    requires { ⌜ Scannable (now sizes) (now losses) entries size loss (start .count) ⌝ }
+    ensures { λ r. ⌜ r ≡ keptOf
+        (pathOf (now (sizes .entry)) (now (losses .entry)) entries)
+        (model size loss)
+        (start .count) ⌝ }
 {
     let mut i = entries;
-    let mut tests: u64 = 0;
+    let mut tests = start;
     loop {
-        tests += 1;
-        if i == 1 {
+        let tested = tally::test(sizes, losses, i, size, loss, tests);
+        let made = tested.tests;
+        if tested.holds {
             break Kept {
                 entries: i,
-                tests: tests,
+                tests: made,
             };
         }
-        let before = i - 2;
-        let at = i - 1;
-        if candidate_below(
-            sizes[before],
-            losses[before],
-            sizes[at],
-            losses[at],
-            size,
-            loss,
-        ) {
-            break Kept {
-                entries: i,
-                tests: tests,
-            };
-        }
-        i = at;
+        tests = made;
+        i -= 1;
     }
 }
 
@@ -77,13 +70,13 @@ fn in_range(size: u64, loss: u64) -> bool
     if size < 1 {
         return false;
     }
-    if 65535 < size {
+    if MAX_SIZE < size {
         return false;
     }
-    loss <= 17592186044416
+    loss <= MAX_LOSS
 }
 
-// Whether entry 1 may follow entry 0: a larger size and a smaller loss.
+// Whether entry 1 may follow entry 0, by a larger size and a smaller loss.
 fn follows(size0: u64, loss0: u64, size1: u64, loss1: u64) -> bool
     ensures { λ r. ⌜ r ≡ follows (model size0 loss0) (model size1 loss1) ⌝ }
 {
@@ -113,17 +106,37 @@ fn ordered(sizes: &[u64], losses: &[u64], entries: usize) -> bool
     in_range(sizes[0], losses[0])
 }
 
+// Whether two buffers of these lengths have room for n places.
+pub fn has_room(n: usize, first: usize, second: usize) -> bool
+    ensures { λ r. ⌜ r ≡ roomFor n (first ∷ second ∷ []) ⌝ }
+{
+    if first < n {
+        return false;
+    }
+    if second < n {
+        return false;
+    }
+    true
+}
+
+// Whether two buffers of these lengths and the limit of models have room for a path of n entries.
+fn path_has_room(n: usize, sizes_len: usize, losses_len: usize) -> bool
+    ensures { λ r. ⌜ r ≡ roomFor n («sizes_len» ∷ «losses_len» ∷ maxModels ∷ []) ⌝ }
+{
+    if !has_room(n, sizes_len, losses_len) {
+        return false;
+    }
+    if MAX_MODELS < n {
+        return false;
+    }
+    true
+}
+
 // Whether a lent path of so many entries is in order.
 pub fn valid_path(sizes: &[u64], losses: &[u64], entries: usize) -> bool
     ensures { λ r. ⌜ r ≡ validPath (now (sizes .entry)) (now (losses .entry)) entries ⌝ }
 {
-    if sizes.len() < entries {
-        return false;
-    }
-    if losses.len() < entries {
-        return false;
-    }
-    if 4096 < entries {
+    if !path_has_room(entries, sizes.len(), losses.len()) {
         return false;
     }
     ordered(sizes, losses, entries)
@@ -132,7 +145,8 @@ pub fn valid_path(sizes: &[u64], losses: &[u64], entries: usize) -> bool
 // The refusal of a new model after a path: the first of 5, 6 and 7, or 0.
 pub fn model_refusal(sizes: &[u64], losses: &[u64], entries: usize, size: u64, loss: u64) -> u64
     requires { ⌜ (entries ≤ length (now sizes)) × (entries ≤ length (now losses)) ⌝ }
-    ensures { λ r. ⌜ r ≡ refusalOf (modelChecks (pathOf (now (sizes .entry)) (now (losses .entry)) entries) (model size loss)) ⌝ }
+    ensures { λ r. ⌜ r ≡ refusalOf
+        (modelChecks (pathOf (now (sizes .entry)) (now (losses .entry)) entries) (model size loss)) ⌝ }
 {
     if !in_range(size, loss) {
         return 5;
@@ -152,7 +166,9 @@ pub fn model_refusal(sizes: &[u64], losses: &[u64], entries: usize, size: u64, l
 
 // The refusal of an append before its room is looked at: the first of 8, 5, 6 and 7, or 0.
 fn input_refusal(sizes: &[u64], losses: &[u64], entries: usize, size: u64, loss: u64) -> u64
-    ensures { λ r. ⌜ r ≡ refusalOf (check 8 (validPath (now (sizes .entry)) (now (losses .entry)) entries) ∷ modelChecks (pathOf (now (sizes .entry)) (now (losses .entry)) entries) (model size loss)) ⌝ }
+    ensures { λ r. ⌜ r ≡ refusalOf
+        (check 8 (validPath (now (sizes .entry)) (now (losses .entry)) entries)
+        ∷ modelChecks (pathOf (now (sizes .entry)) (now (losses .entry)) entries) (model size loss)) ⌝ }
 {
     if !valid_path(sizes, losses, entries) {
         return 8;
@@ -160,18 +176,32 @@ fn input_refusal(sizes: &[u64], losses: &[u64], entries: usize, size: u64, loss:
     model_refusal(sizes, losses, entries, size, loss)
 }
 
-// What a model that passes its checks keeps of a path that is in order; of an empty one nothing, with no test.
-pub fn try_model(sizes: &[u64], losses: &[u64], entries: usize, size: u64, loss: u64) -> Kept
-    requires { ⌜ refusalOf (check 8 (validPath (now sizes) (now losses) entries) ∷ modelChecks (pathOf (now sizes) (now losses) entries) (model size loss)) ≡ 0 ⌝ }
-    ensures { λ r. ⌜ r ≡ keptOf (pathOf (now (sizes .entry)) (now (losses .entry)) entries) (model size loss) ⌝ }
+// What a model that passes its checks keeps of a path that is in order. The tests made for that are added to those made so far,
+// of which there must be few. An empty path takes no test.
+pub fn try_model(
+    sizes: &[u64],
+    losses: &[u64],
+    entries: usize,
+    size: u64,
+    loss: u64,
+    tests: Tally,
+) -> Kept
+    requires { ⌜ (refusalOf
+        (check 8 (validPath (now sizes) (now losses) entries)
+        ∷ modelChecks (pathOf (now sizes) (now losses) entries) (model size loss)) ≡ 0)
+        × (tests .count < 2 ^ 32) ⌝ }
+    ensures { λ r. ⌜ r ≡ keptOf
+        (pathOf (now (sizes .entry)) (now (losses .entry)) entries)
+        (model size loss)
+        (tests .count) ⌝ }
 {
     if entries == 0 {
         return Kept {
             entries: 0,
-            tests: 0,
+            tests: tests,
         };
     }
-    scan(sizes, losses, entries, size, loss)
+    scan(sizes, losses, entries, size, loss, tests)
 }
 
 // Writes 0 everywhere.
@@ -188,7 +218,10 @@ pub fn clear(buffer: &mut [u64])
 // Puts a value after the first places, which stay, and zeros after it as far as place n.
 fn store(buffer: &mut [u64], kept: usize, n: usize, value: u64)
     requires { ⌜ (kept < length (now buffer)) × (n ≤ length (now buffer)) ⌝ }
-    ensures { λ r. ⌜ now (buffer .exit) ≡ overwrittenTo (take kept (now (buffer .entry)) ++ (value ∷ [])) n (now (buffer .entry)) ⌝ }
+    ensures { λ r. ⌜ now (buffer .exit) ≡ overwrittenTo
+        (take kept (now (buffer .entry)) ++ (value ∷ []))
+        n
+        (now (buffer .entry)) ⌝ }
 {
     buffer[kept] = value;
     let end = kept + 1;
@@ -199,26 +232,13 @@ fn store(buffer: &mut [u64], kept: usize, n: usize, value: u64)
 
 // The answer of a refused call.
 pub fn refuse(refusal: u64) -> PathResult
-    ensures { λ r. ⌜ r ≡ refusedWith refusal ⌝ }
+    ensures { λ r. ⌜ r ≡ record { refusal = refusal; entries = 0; tests = tallyOf 0 } ⌝ }
 {
     PathResult {
         refusal: refusal,
         entries: 0,
-        tests: 0,
+        tests: tally::none(),
     }
-}
-
-// Whether there is room for the kept entries and one more.
-fn has_room(sizes_len: usize, losses_len: usize, kept: usize) -> bool
-    ensures { λ r. ⌜ r ≡ leb (suc kept) «sizes_len» && leb (suc kept) «losses_len» && leb (suc kept) 4096 ⌝ }
-{
-    if sizes_len <= kept {
-        return false;
-    }
-    if losses_len <= kept {
-        return false;
-    }
-    kept < 4096
 }
 
 // Appends a model to the path of so many entries. The path then fills the front of both lists.
@@ -229,22 +249,25 @@ pub fn append(
     size: u64,
     loss: u64,
 ) -> PathResult
-    ensures { λ r. ⌜ pathOutcome r (now (sizes .exit)) (now (losses .exit)) ≡ appendOf (now (sizes .entry)) (now (losses .entry)) entries (model size loss) ⌝ }
+    ensures { λ r. ⌜ pathOutcome r (now (sizes .exit)) (now (losses .exit))
+        ≡ appendOf (now (sizes .entry)) (now (losses .entry)) entries (model size loss) ⌝ }
 {
     let refusal = input_refusal(sizes, losses, entries, size, loss);
     if refusal != 0 {
         return refuse(refusal);
     }
-    let found = try_model(sizes, losses, entries, size, loss);
+    let found = try_model(sizes, losses, entries, size, loss, tally::none());
     let kept = found.entries;
-    if !has_room(sizes.len(), losses.len(), kept) {
+    let end = kept + 1;
+    if !path_has_room(end, sizes.len(), losses.len()) {
         return refuse(9);
     }
     store(sizes, kept, entries, size);
     store(losses, kept, entries, loss);
+    let tests = found.tests;
     PathResult {
         refusal: 0,
-        entries: kept + 1,
-        tests: found.tests,
+        entries: end,
+        tests: tests,
     }
 }

@@ -7,16 +7,16 @@ use native.Mathlib.Nat.{mul-le-mul, not-suc-le-zero}
 use native.Mathlib.Numerals.{add-one}
 use native.Mathlib.Omega.{arith}
 use lib.Dec.{ltb, leb}
-use borrow.Author.Tests.{lt-ltb, le-ltb, leb-true, le-leb, ne-eqb}
+use borrow.Author.Tests.{lt-ltb, le-ltb, leb-true, le-leb}
 use Rattle.path.specs.Model.{Model, modelAt}
-use Rattle.path.specs.Refusal.{check, refusalOf, inRange, validPath}
-use Rattle.path.proofs.Checks.{both, passed, refusal-is}
+use Rattle.path.specs.Refusal.{Check, check, refusalOf, inRange, validPath}
+use Rattle.path.proofs.Checks.{both, passed, refuses, accepts, refusal-is}
 use Rattle.path.proofs.Order.{within, valid-parts, last-in-range, ordered-front}
 use Rattle.select.specs.Penalty.{validPenalty, maxNumerator, maxDenominator, cost}
 use Rattle.select.specs.declared.SelectResult.{SelectResult}
-use Rattle.select.specs.Select.{selectedFrom, selected, selectChecks, selectOf, selection, selectRefused}
+use Rattle.select.specs.Select.{selectedFrom, selected, selectChecks, selectOf, entryAt, selectRefused}
 
--- a penalty in range
+-- What a penalty in range tells.
 pub record Priced (p q : ℕ) : Type 0 where
   pub numerator : p ≤ maxNumerator
   pub positive : 1 ≤ q
@@ -28,14 +28,14 @@ priced p q h =
     let b = both (leb p maxNumerator) (leb 1 q) (a .0) in
     record { numerator = leb-true _ _ (b .0); positive = leb-true _ _ (b .1); denominator = leb-true _ _ (a .1) }
 
--- a cost is below 2^61, and so are its two products
+-- A cost is below 2^61, and so are its two products.
 pub cost-small : (p q : ℕ) (m : Model) → validPenalty p q ≡ true → inRange m ≡ true → cost p q m < 2 ^ 61
 cost-small p q m h g =
     let a = priced p q h in
     let b = within m g in
     omega (arith, mul-le-mul (a .denominator) (b .low), mul-le-mul (a .numerator) (b .small))
 
--- an entry of a valid path is in range
+-- An entry of a valid path is in range.
 pub valid-in-range : (s l : List ℕ) (n i : ℕ) → validPath s l n ≡ true → i < n → inRange (modelAt s l i) ≡ true
 valid-in-range s l n i h p = last-in-range s l i (ordered-front s l n (suc i) (valid-parts s l n h .order) p)
 
@@ -58,7 +58,7 @@ module _ (s l : List ℕ) (p q : ℕ) where
       let h' : cost p q (modelAt s l (suc i)) < cost p q (modelAt s l i) = rw add-one at h in
       rw (e, add-one i) (turn i m' ∙ ap (λ (t : Bool). cond t (selectedFrom s l p q (suc i) m') i) (lt-ltb (cost p q (modelAt s l (suc i))) (cost p q (modelAt s l i)) h'))
 
-  -- the walk ends at an entry between the first and the last
+  -- The walk ends at an entry between the first and the last.
   pub selected-within : (m i : ℕ) → (i ≤ selectedFrom s l p q i m) × (selectedFrom s l p q i m ≤ i + m)
   unfolding selectedFrom
   selected-within zero i = (omega arith, omega arith)
@@ -70,20 +70,21 @@ module _ (s l : List ℕ) (p q : ℕ) where
       by-test true h = (omega arith, omega arith)
       by-test false h = (omega arith, omega arith)
 
+-- `selectOf` by the refusal that its checks give.
 module _ (s l : List ℕ) (n p q : ℕ) where
   pub select-refusal : selectOf s l n p q .refusal ≡ refusalOf (selectChecks s l n p q)
   unfolding selectOf
-  select-refusal = refusal-is (λ (r : SelectResult). r .refusal) _ _ (refusalOf (selectChecks s l n p q)) refl refl
+  select-refusal = refusal-is (selectChecks s l n p q) selectRefused _ (λ (r : SelectResult). r .refusal) refl (λ c. refl)
 
   pub select-refused : (c : ℕ) → c ≡ refusalOf (selectChecks s l n p q) → (c ≡ 0 → ⊥) → selectRefused c ≡ selectOf s l n p q
   unfolding selectOf
-  select-refused c e h = rw (← e, ne-eqb c 0 h)
+  select-refused c e h = refuses (selectChecks s l n p q) selectRefused _ c e h
 
-  pub select-done : refusalOf (selectChecks s l n p q) ≡ 0 → (i : ℕ) → i ≡ selected s l n p q → selection s l i ≡ selectOf s l n p q
+  pub select-done : refusalOf (selectChecks s l n p q) ≡ 0 → (i : ℕ) → i ≡ selected s l n p q → entryAt s l i ≡ selectOf s l n p q
   unfolding selectOf
-  select-done e i f = rw (e, f)
+  select-done e i f = ap (entryAt s l) f ∙ accepts (selectChecks s l n p q) selectRefused _ e
 
-  -- what an accepted selection tells
+  -- What an accepted selection tells.
   pub record Selectable : Type 0 where
     pub valid : validPath s l n ≡ true
     pub some : 1 ≤ n

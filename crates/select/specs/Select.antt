@@ -1,16 +1,16 @@
--- The whole outcome of a selection, 01's choosing: the entry at which the walk from the first entry on ends. It is fixed for
--- every ordered list; the contract of `select` says that its answer equals `selectOf`.
+-- The whole outcome of a selection, the trade's choosing: the entry at which the walk from the first entry on ends. It is fixed for
+-- every ordered list. The contract of `select` says that its answer equals `selectOf`.
 use mathlib.Core.Bool.{cond}
 use mathlib.Core.List.{List, [], _∷_}
 use Prim.Native.Nat.{ℕ, zero, suc, _-_}
-use lib.Dec.{ltb, leb, eqb}
+use lib.Dec.{ltb, leb}
 use lib.ListN.{getD}
 use Rattle.path.specs.Model.{modelAt}
-use Rattle.path.specs.Refusal.{Check, check, refusalOf, validPath}
+use Rattle.path.specs.Refusal.{Check, check, byChecks, validPath}
 use Rattle.select.specs.Penalty.{validPenalty, cost}
 use Rattle.select.specs.declared.SelectResult.{SelectResult}
 
--- from entry i on, with m entries after it: on while the next one costs strictly less
+-- From entry i on, with m entries after it, the walk goes on while the next entry costs strictly less.
 unfoldable pub selectedFrom : List ℕ → List ℕ → ℕ → ℕ → ℕ → ℕ → ℕ
 selectedFrom sizes losses p q i zero = i
 selectedFrom sizes losses p q i (suc m) =
@@ -18,26 +18,24 @@ selectedFrom sizes losses p q i (suc m) =
     (selectedFrom sizes losses p q (suc i) m)
     i
 
--- the entry selected of n
+-- The entry selected of n.
 abbrev pub selected : List ℕ → List ℕ → ℕ → ℕ → ℕ → ℕ
 selected sizes losses n p q = selectedFrom sizes losses p q 0 (n - 1)
 
--- the checks of a selection: 8, 10, 4
+-- The checks of a selection: 8, 10, 4.
 abbrev pub selectChecks : List ℕ → List ℕ → ℕ → ℕ → ℕ → List Check
 selectChecks sizes losses n p q =
     check 8 (validPath sizes losses n) ∷ check 10 (leb 1 n) ∷ check 4 (validPenalty p q) ∷ []
 
--- the answer of a refused selection: its number and zeros
+-- A refused selection answers its number and zeros.
 abbrev pub selectRefused : ℕ → SelectResult
-selectRefused c = record { refusal = c; index = 0; size = 0; loss = 0 }
+selectRefused number = record { refusal = number; index = 0; size = 0; loss = 0 }
 
--- the answer that gives entry i
-abbrev pub selection : List ℕ → List ℕ → ℕ → SelectResult
-selection sizes losses i = record { refusal = 0; index = i; size = getD sizes i 0; loss = getD losses i 0 }
+-- The answer that gives entry i.
+abbrev pub entryAt : List ℕ → List ℕ → ℕ → SelectResult
+entryAt sizes losses i = record { refusal = 0; index = i; size = getD sizes i 0; loss = getD losses i 0 }
 
--- the selection from the path of n entries at the penalty p / q
+-- The selection from the path of n entries at the penalty p / q.
 unfoldable pub selectOf : List ℕ → List ℕ → ℕ → ℕ → ℕ → SelectResult
 selectOf sizes losses n p q =
-    cond (eqb (refusalOf (selectChecks sizes losses n p q)) 0)
-    (selection sizes losses (selected sizes losses n p q))
-    (selectRefused (refusalOf (selectChecks sizes losses n p q)))
+    byChecks (selectChecks sizes losses n p q) selectRefused (entryAt sizes losses (selected sizes losses n p q))

@@ -1,4 +1,4 @@
-// The model that a path gives at a penalty, and the breakpoints between its entries. Both take a lent path as it stands, and
+// The model that a path gives at a penalty, and the breakpoints between its entries. Both calls take a lent path as it stands, and
 // test that it is in order.
 
 ghost use mathlib.Core.Path.{_≡_};
@@ -6,13 +6,21 @@ ghost use mathlib.Core.Bool.{true};
 ghost use Prim.Native.Nat.{_+_, _-_, _≤_};
 ghost use lib.ListN.{length};
 ghost use Rattle.path.specs.Model.{model};
+ghost use Rattle.path.specs.Update.{Fraction};
 ghost use Rattle.path.specs.Refusal.{inRange, validPath, refusalOf};
 ghost use Rattle.select.specs.Penalty.{validPenalty, cost};
 ghost use Rattle.select.specs.Select.{selected, selectChecks, selectOf};
-ghost use Rattle.select.specs.Breakpoints.{breakpointsOutcome, breakpointChecks, breakpointsOf};
-ghost use Rattle.select.specs.Listing.{Listable, Written};
+ghost use Rattle.select.specs.Breakpoints.{breakpointsOutcome, breakpointsChecks, breakpointsOf};
+ghost use Rattle.select.specs.Inner.{Listable, Written};
 
-// The answer of a selection: the refusal, 0 where it is accepted, then the entry's index from 0, its size and its loss.
+// The largest numerator of a penalty is 2^44.
+pub const MAX_NUMERATOR: u64 = 17592186044416;
+
+// The largest denominator of a penalty.
+pub const MAX_DENOMINATOR: u64 = 65535;
+
+// The answer of a selection: the refusal, which is 0 where the call is accepted and else has zeros after it, then the entry's index
+// from 0, its size and its loss.
 #[repr(C)]
 pub struct SelectResult {
     pub refusal: u64,
@@ -21,7 +29,7 @@ pub struct SelectResult {
     pub loss: u64,
 }
 
-// The answer of a call that lists breakpoints: the refusal, 0 where it is accepted, then how many there are.
+// The answer of a call that lists breakpoints: the refusal, which is 0 where the call is accepted, then how many there are.
 #[repr(C)]
 pub struct BreakpointsResult {
     pub refusal: u64,
@@ -40,18 +48,20 @@ fn cost_of(p: u64, q: u64, size: u64, loss: u64) -> u64
 pub fn valid_penalty(p: u64, q: u64) -> bool
     ensures { λ r. ⌜ r ≡ validPenalty p q ⌝ }
 {
-    if 17592186044416 < p {
+    if MAX_NUMERATOR < p {
         return false;
     }
     if q < 1 {
         return false;
     }
-    q <= 65535
+    q <= MAX_DENOMINATOR
 }
 
 // Walks from the first entry on while the next one costs strictly less.
 fn walk(sizes: &[u64], losses: &[u64], entries: usize, p: u64, q: u64) -> usize
-    requires { ⌜ (validPath (now sizes) (now losses) entries ≡ true) × (validPenalty p q ≡ true) × (1 ≤ entries) ⌝ }
+    requires { ⌜ (validPath (now sizes) (now losses) entries ≡ true)
+        × (validPenalty p q ≡ true)
+        × (1 ≤ entries) ⌝ }
     ensures { λ r. ⌜ r ≡ selected (now (sizes .entry)) (now (losses .entry)) entries p q ⌝ }
 {
     let last = entries - 1;
@@ -106,6 +116,13 @@ pub fn select(sizes: &[u64], losses: &[u64], entries: usize, p: u64, q: u64) -> 
     }
 }
 
+// The number of breakpoints of a path of so many entries.
+fn breakpoint_count(entries: usize) -> usize
+    ensures { λ r. ⌜ r ≡ entries - 1 ⌝ }
+{
+    if entries == 0 { 0 } else { entries - 1 }
+}
+
 // The refusal of a listing into buffers of two lengths: 8, 9 or 0.
 fn breakpoints_refusal(
     sizes: &[u64],
@@ -114,34 +131,42 @@ fn breakpoints_refusal(
     numerators_room: usize,
     denominators_room: usize,
 ) -> u64
-    ensures { λ r. ⌜ r ≡ refusalOf (breakpointChecks (now (sizes .entry)) (now (losses .entry)) entries «numerators_room» «denominators_room») ⌝ }
+    ensures { λ r. ⌜ r ≡ refusalOf
+        (breakpointsChecks
+        (now (sizes .entry)) (now (losses .entry)) entries
+        «numerators_room» «denominators_room») ⌝ }
 {
     if !path::valid_path(sizes, losses, entries) {
         return 8;
     }
-    if entries == 0 {
-        return 0;
-    }
-    let count = entries - 1;
-    if numerators_room < count {
-        return 9;
-    }
-    if denominators_room < count {
+    if !path::has_room(
+        breakpoint_count(entries),
+        numerators_room,
+        denominators_room,
+    ) {
         return 9;
     }
     0
 }
 
-// Writes the breakpoints of a path of one entry or more.
+// Writes so many breakpoints, which are those of a path of one entry more.
 fn write_breakpoints(
     sizes: &[u64],
     losses: &[u64],
+    entries: usize,
     count: usize,
     numerators: &mut [u64],
     denominators: &mut [u64],
 )
-    requires { ⌜ Listable (now sizes) (now losses) count (length (now numerators)) (length (now denominators)) ⌝ }
-    ensures { λ r. ⌜ Written (now (sizes .entry)) (now (losses .entry)) (now (numerators .entry)) (now (denominators .entry)) (now (numerators .exit)) (now (denominators .exit)) count ⌝ }
+    requires { ⌜ Listable
+        (now sizes) (now losses) entries count
+        (length (now numerators)) (length (now denominators)) ⌝ }
+    ensures { λ r. ⌜ Written (λ (b : Fraction). b .numerator)
+        (now (sizes .entry)) (now (losses .entry))
+        (now (numerators .entry)) (now (numerators .exit)) count
+        × Written (λ (b : Fraction). b .denominator)
+        (now (sizes .entry)) (now (losses .entry))
+        (now (denominators .entry)) (now (denominators .exit)) count ⌝ }
 {
     let mut i = 0;
     while i < count {
@@ -160,7 +185,10 @@ pub fn breakpoints(
     numerators: &mut [u64],
     denominators: &mut [u64],
 ) -> BreakpointsResult
-    ensures { λ r. ⌜ breakpointsOutcome r (now (numerators .exit)) (now (denominators .exit)) ≡ breakpointsOf (now (sizes .entry)) (now (losses .entry)) entries (now (numerators .entry)) (now (denominators .entry)) ⌝ }
+    ensures { λ r. ⌜ breakpointsOutcome r (now (numerators .exit)) (now (denominators .exit))
+        ≡ breakpointsOf
+        (now (sizes .entry)) (now (losses .entry)) entries
+        (now (numerators .entry)) (now (denominators .entry)) ⌝ }
 {
     let refusal = breakpoints_refusal(sizes, losses, entries, numerators.len(), denominators.len());
     if refusal != 0 {
@@ -169,14 +197,8 @@ pub fn breakpoints(
             count: 0,
         };
     }
-    if entries == 0 {
-        return BreakpointsResult {
-            refusal: 0,
-            count: 0,
-        };
-    }
-    let count = entries - 1;
-    write_breakpoints(sizes, losses, count, numerators, denominators);
+    let count = breakpoint_count(entries);
+    write_breakpoints(sizes, losses, entries, count, numerators, denominators);
     BreakpointsResult {
         refusal: 0,
         count: count,

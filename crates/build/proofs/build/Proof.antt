@@ -6,11 +6,19 @@ use lib.ListN.{length, replicate}
 use borrow.Rule.Slice.PartMut.{putMid, mid-len}
 use Rattle.path.specs.declared.PathResult.{PathResult}
 use Rattle.path.specs.Append.{pathOutcome}
-use Rattle.build.proofs.Lists.{fillable}
+use Rattle.build.specs.Inner.{Buildable}
+use Rattle.build.proofs.Lists.{buildable}
 use Rattle.build.proofs.Cases.{build-refused, build-done}
+use borrow.Author.Needs.{needs}
 use borrow.Author.Needs.{needs}
 use Rattle.build.proofs.build.Statement.{statement}
 use Rattle.build.proofs.build.Tie as tie
+
+-- An accepted build may be filled.
+may-fill : (c : tie.Else1) → Buildable (c .before .before .before .before .before .before .args .sizes .now) (c .before .before .before .before .before .before .args .losses .now) (length (c .before .before .before .before .before .before .args .path-sizes .now)) (length (c .before .before .before .before .before .before .args .path-losses .now))
+may-fill c =
+    let a = c .before .before .before .before .before .before .args in
+    buildable (a .sizes .now) (a .losses .now) (length (a .path-sizes .now)) (length (a .path-losses .now)) (sym (c .before .build-refusal .ensures) ∙ c .if1 .left) .1
 
 build-refusal-requires : tie.Need-build-refusal-requires
 build-refusal-requires c κs = search needs
@@ -26,10 +34,7 @@ returns c =
     ∙ build-refused (a .sizes .now) (a .losses .now) (a .path-sizes .now) (a .path-losses .now) (r .result) (r .ensures) (c .before .if1 .taken)
 
 fill-requires : tie.Need-fill-requires
-fill-requires c κs =
-    let a = c .before .before .before .before .before .before .before .before .args in
-    let r = c .before .before .before .build-refusal in
-    fillable (a .sizes .now) (a .losses .now) (length (a .path-sizes .now)) (length (a .path-losses .now)) (sym (r .ensures) ∙ c .before .before .if1 .left) .1
+fill-requires c κs = may-fill (c .before .before)
 
 mul-clear : tie.Need-mul-clear
 mul-clear c = search needs
@@ -41,11 +46,7 @@ part-clear-start : tie.Need-part-clear-start
 part-clear-start c = search needs
 
 part-clear-end : tie.Need-part-clear-end
-part-clear-end c =
-    let a = c .before .before .before .before .before .before .before .before .before .before .before .before .before .args in
-    let r = c .before .before .before .before .before .before .before .before .build-refusal in
-    let ok = fillable (a .sizes .now) (a .losses .now) (length (a .path-sizes .now)) (length (a .path-losses .now)) (sym (r .ensures) ∙ c .before .before .before .before .before .before .before .if1 .left) .1 in
-    omega (arith, ok .sizes-fit, c .before .before .before .before .fill .ensures .held .sizes-long)
+part-clear-end c = omega (arith, may-fill (c .before .before .before .before .before .before .before) .sizes-fit, c .before .before .before .before .fill .ensures .held .sizes .long)
 
 clear-requires : tie.Need-clear-requires
 clear-requires c κs = search needs
@@ -60,11 +61,7 @@ part-clear-start-2 : tie.Need-part-clear-start-2
 part-clear-start-2 c = search needs
 
 part-clear-end-2 : tie.Need-part-clear-end-2
-part-clear-end-2 c =
-    let a = c .before .before .before .before .before .before .before .before .before .before .before .before .before .before .before .before .before .args in
-    let r = c .before .before .before .before .before .before .before .before .before .before .before .before .build-refusal in
-    let ok = fillable (a .sizes .now) (a .losses .now) (length (a .path-sizes .now)) (length (a .path-losses .now)) (sym (r .ensures) ∙ c .before .before .before .before .before .before .before .before .before .before .before .if1 .left) .1 in
-    omega (arith, ok .losses-fit, c .before .before .before .before .before .before .before .before .fill .ensures .held .losses-long)
+part-clear-end-2 c = omega (arith, may-fill (c .before .before .before .before .before .before .before .before .before .before .before) .losses-fit, c .before .before .before .before .before .before .before .before .fill .ensures .held .losses .long)
 
 clear-requires-2 : tie.Need-clear-requires-2
 clear-requires-2 c κs = search needs
@@ -77,18 +74,17 @@ same-length-2 c = search needs
 
 returns-2 : tie.Need-returns-2
 returns-2 c =
-    let a = c .before .before .before .before .before .before .before .before .before .before .before .before .before .before .before .before .before .before .before .before .before .args in
-    let r = c .before .before .before .before .before .before .before .before .before .before .before .before .before .before .before .before .build-refusal in
-    let none = sym (r .ensures) ∙ c .before .before .before .before .before .before .before .before .before .before .before .before .before .before .before .if1 .left in
-    let ok = fillable (a .sizes .now) (a .losses .now) (length (a .path-sizes .now)) (length (a .path-losses .now)) none .1 in
-    let f = c .before .before .before .before .before .before .before .before .before .before .before .before .fill in
+    let a = c .before .before .before .before .before .before .before .before .before .before .before .before .before .before .before .before .before .before .before .before .before .before .args in
+    let r = c .before .before .before .before .before .before .before .before .before .before .before .before .before .before .before .before .before .build-refusal in
+    let ok = may-fill (c .before .before .before .before .before .before .before .before .before .before .before .before .before .before .before .before) in
+    let f = c .before .before .before .before .before .before .before .before .before .before .before .before .before .fill in
     let k = f .result .entries in
     let n = length (a .sizes .now) in
     let s = f .last .1 .1 .0 in
     let l = f .last .1 .1 .1 .0 in
-    build-done (a .sizes .now) (a .losses .now) (a .path-sizes .now) (a .path-losses .now) none s l _ _ k (f .result .tests) (f .ensures)
-    (ap (putMid k (n - k) s) (c .before .before .before .before .before .before .clear .ensures ∙ ap (λ (m : ℕ). replicate m 0) (mid-len k n s (omega (arith, ok .sizes-fit, f .ensures .held .sizes-long)))))
-    (ap (putMid k (n - k) l) (c .before .before .clear2 .ensures ∙ ap (λ (m : ℕ). replicate m 0) (mid-len k n l (omega (arith, ok .losses-fit, f .ensures .held .losses-long)))))
+    build-done (a .sizes .now) (a .losses .now) (a .path-sizes .now) (a .path-losses .now) (sym (r .ensures) ∙ c .before .before .before .before .before .before .before .before .before .before .before .before .before .before .before .before .if1 .left) s l _ _ k (f .result .tests .count) (f .ensures)
+    (ap (putMid k (n - k) s) (c .before .before .before .before .before .before .before .clear .ensures ∙ ap (λ (m : ℕ). replicate m 0) (mid-len k n s (omega (arith, ok .sizes-fit, f .ensures .held .sizes .long)))))
+    (ap (putMid k (n - k) l) (c .before .before .before .clear2 .ensures ∙ ap (λ (m : ℕ). replicate m 0) (mid-len k n l (omega (arith, ok .losses-fit, f .ensures .held .losses .long)))))
 
 pub build-spec : {M : Type 1} → statement M
 build-spec =

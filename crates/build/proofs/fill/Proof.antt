@@ -1,41 +1,36 @@
 -- `build::fill` meets its contract. The loop's invariant: the buffers hold the path of the first i models.
-use mathlib.Core.Path.{_≡_, ap, subst}
+use mathlib.Core.Path.{_≡_, ap, sym, subst}
 use Prim.Native.Nat.{ℕ, _+_, _-_, _≤_}
 use native.Mathlib.Omega.{arith}
 use lib.ListN.{length}
 use Rattle.path.specs.declared.Kept.{Kept}
-use Rattle.build.specs.Fill.{Filled}
-use Rattle.build.proofs.Turns.{filled-none, may-try, kept-before, tests-fit, filled-more}
+use Rattle.path.specs.declared.tally.Tally.{Tally}
+use Rattle.build.specs.Inner.{BuiltIn}
+use Rattle.build.proofs.Steps.{built-none, tests-small, may-try, kept-before, built-pushed}
 use Rattle.build.proofs.fill.Statement.{statement}
 use Rattle.build.proofs.fill.Tie as tie
 
 abbrev Inv-loop : tie.InvT-loop
-Inv-loop sizes losses path-sizes₀ path-losses₀ entries₀ tests₀ i₀ path-sizes path-losses entries tests i = Filled sizes losses path-sizes₀ path-losses₀ path-sizes path-losses entries tests i
+Inv-loop sizes losses path-sizes₀ path-losses₀ entries₀ tests₀ i₀ path-sizes path-losses entries tests i = (i ≤ length sizes) × BuiltIn sizes losses path-sizes₀ path-losses₀ path-sizes path-losses entries (tests .count) i
 
 abbrev μ-loop : tie.MeasureT-loop
 μ-loop sizes losses path-sizes₀ path-losses₀ entries₀ tests₀ i₀ path-sizes path-losses entries tests i = length sizes - i
 
--- once the model was tried: it keeps at most i entries, and the tests fit
-module _ (c : tie.After-try-model Inv-loop μ-loop) where
-  abbrev found : Kept
-  found = c .try-model .result
+-- A model that was tried keeps at most i entries.
+fits : (c : tie.After-try-model Inv-loop μ-loop) → c .try-model .result .entries ≤ c .before .before .before .before .before .before .loop .i
+fits c =
+    let a = c .before .before .before .before .before .before .before .before .before .before .before .before .args in
+    let lp = c .before .before .before .before .before .before .loop in
+    kept-before (a .sizes .now) (a .losses .now) (a .path-sizes .now) (a .path-losses .now) (lp .path-sizes) (lp .path-losses) (lp .entries) (lp .tests .count) (lp .i) (lp .inv .1) (c .before .before .before .before .before .before .before .before .before .before .before .before .pre) (c .before .before .before .before .before .loop-test .taken) (c .try-model .result .entries) (ap (λ (x : Kept). x .entries) (c .try-model .ensures))
 
-  fits : found .entries ≤ c .before .before .before .before .before .before .loop .i
-  fits =
-      let a = c .before .before .before .before .before .before .before .before .before .before .before .args in
-      let lp = c .before .before .before .before .before .before .loop in
-      kept-before (a .sizes .now) (a .losses .now) (a .path-sizes .now) (a .path-losses .now) (lp .path-sizes) (lp .path-losses) (lp .entries) (lp .tests) (lp .i) (lp .inv) (c .before .before .before .before .before .before .before .before .before .before .before .pre) (c .before .before .before .before .before .loop-test .taken) (found .entries) (found .tests) (ap (λ (x : Kept). x .entries) (c .try-model .ensures)) (ap (λ (x : Kept). x .tests) (c .try-model .ensures))
-
-  counts : c .before .before .before .before .before .before .loop .tests + found .tests + (found .entries + 1) ≤ (c .before .before .before .before .before .before .loop .i + 1) + (c .before .before .before .before .before .before .loop .i + 1)
-  counts =
-      let a = c .before .before .before .before .before .before .before .before .before .before .before .args in
-      let lp = c .before .before .before .before .before .before .loop in
-      tests-fit (a .sizes .now) (a .losses .now) (a .path-sizes .now) (a .path-losses .now) (lp .path-sizes) (lp .path-losses) (lp .entries) (lp .tests) (lp .i) (lp .inv) (c .before .before .before .before .before .before .before .before .before .before .before .pre) (c .before .before .before .before .before .loop-test .taken) (found .entries) (found .tests) (ap (λ (x : Kept). x .entries) (c .try-model .ensures)) (ap (λ (x : Kept). x .tests) (c .try-model .ensures))
+none-requires : tie.Need-none-requires Inv-loop μ-loop
+none-requires c κs = tt
 
 loop-holds : tie.Need-loop-holds Inv-loop μ-loop
 loop-holds c =
-    let a = c .before .before .before .before .args in
-    filled-none (a .sizes .now) (a .losses .now) (a .path-sizes .now) (a .path-losses .now)
+    let a = c .before .before .before .before .before .args in
+    let e = ap (λ (x : Tally). x .count) (c .none .ensures) in
+    (omega arith, subst (λ (t : ℕ). BuiltIn (a .sizes .now) (a .losses .now) (a .path-sizes .now) (a .path-losses .now) (a .path-sizes .now) (a .path-losses .now) 0 t 0) (sym e) (built-none (a .sizes .now) (a .losses .now) (a .path-sizes .now) (a .path-losses .now)))
 
 mul-size : tie.Need-mul-size Inv-loop μ-loop
 mul-size c = omega arith
@@ -44,34 +39,31 @@ shared-slice-read-size : tie.Need-shared-slice-read-size Inv-loop μ-loop
 shared-slice-read-size c = omega arith
 
 mul-loss : tie.Need-mul-loss Inv-loop μ-loop
-mul-loss c = omega arith
+mul-loss c = omega (arith, c .before .before .before .before .before .before .before .before .pre .paired)
 
 shared-slice-read-loss : tie.Need-shared-slice-read-loss Inv-loop μ-loop
-shared-slice-read-loss c = omega arith
+shared-slice-read-loss c = omega (arith, c .before .before .before .before .before .before .before .before .before .pre .paired)
 
 try-model-requires : tie.Need-try-model-requires Inv-loop μ-loop
 try-model-requires c κs =
-    let a = c .before .before .before .before .before .before .before .before .before .before .args in
+    let a = c .before .before .before .before .before .before .before .before .before .before .before .args in
     let lp = c .before .before .before .before .before .loop in
-    may-try (a .sizes .now) (a .losses .now) (a .path-sizes .now) (a .path-losses .now) (lp .path-sizes) (lp .path-losses) (lp .entries) (lp .tests) (lp .i) (lp .inv) (c .before .before .before .before .before .before .before .before .before .before .pre) (c .before .before .before .before .loop-test .taken)
+    (may-try (a .sizes .now) (a .losses .now) (a .path-sizes .now) (a .path-losses .now) (lp .path-sizes) (lp .path-losses) (lp .entries) (lp .tests .count) (lp .i) (lp .inv .1) (c .before .before .before .before .before .before .before .before .before .before .before .pre) (c .before .before .before .before .loop-test .taken), tests-small (a .sizes .now) (a .losses .now) (a .path-sizes .now) (a .path-losses .now) (lp .path-sizes) (lp .path-losses) (lp .entries) (lp .tests .count) (lp .i) (lp .inv .1) (omega (arith, c .before .before .before .before .before .before .before .before .before .before .before .pre .few)))
 
 mul-path-sizes : tie.Need-mul-path-sizes Inv-loop μ-loop
-mul-path-sizes c = omega (arith, fits c, c .before .before .before .before .before .before .loop .inv .held .sizes-long, c .before .before .before .before .before .before .before .before .before .before .before .pre .sizes-fit)
+mul-path-sizes c = omega (arith, fits c, c .before .before .before .before .before .before .loop .inv .1 .held .sizes .long, c .before .before .before .before .before .before .before .before .before .before .before .before .pre .sizes-fit)
 
 slice-write-path-sizes : tie.Need-slice-write-path-sizes Inv-loop μ-loop
-slice-write-path-sizes c = omega (arith, fits c, c .before .before .before .before .before .before .loop .inv .held .sizes-long, c .before .before .before .before .before .before .before .before .before .before .before .pre .sizes-fit)
+slice-write-path-sizes c = omega (arith, fits c, c .before .before .before .before .before .before .loop .inv .1 .held .sizes .long, c .before .before .before .before .before .before .before .before .before .before .before .before .pre .sizes-fit)
 
 mul-path-losses : tie.Need-mul-path-losses Inv-loop μ-loop
-mul-path-losses c = omega (arith, fits c, c .before .before .before .before .before .before .loop .inv .held .losses-long, c .before .before .before .before .before .before .before .before .before .before .before .pre .losses-fit)
+mul-path-losses c = omega (arith, fits c, c .before .before .before .before .before .before .loop .inv .1 .held .losses .long, c .before .before .before .before .before .before .before .before .before .before .before .before .pre .losses-fit)
 
 slice-write-path-losses : tie.Need-slice-write-path-losses Inv-loop μ-loop
-slice-write-path-losses c = omega (arith, fits c, c .before .before .before .before .before .before .loop .inv .held .losses-long, c .before .before .before .before .before .before .before .before .before .before .before .pre .losses-fit)
+slice-write-path-losses c = omega (arith, fits c, c .before .before .before .before .before .before .loop .inv .1 .held .losses .long, c .before .before .before .before .before .before .before .before .before .before .before .before .pre .losses-fit)
 
 add-entries : tie.Need-add-entries Inv-loop μ-loop
-add-entries c = omega (arith, fits c, c .before .before .before .before .before .before .before .before .before .before .before .pre .few)
-
-add-tests : tie.Need-add-tests Inv-loop μ-loop
-add-tests c = omega (arith, counts (c .before), c .before .before .before .before .before .before .before .before .before .before .before .before .pre .few)
+add-entries c = omega (arith, fits c, c .before .before .before .before .before .before .before .before .before .before .before .before .pre .few)
 
 add-i : tie.Need-add-i Inv-loop μ-loop
 add-i c = omega arith
@@ -81,23 +73,23 @@ loop-less c = omega arith
 
 loop-again : tie.Need-loop-again Inv-loop μ-loop
 loop-again c =
-    let a = c .before .before .before .before .before .before .before .before .before .before .before .before .args in
+    let a = c .before .before .before .before .before .before .before .before .before .before .before .before .before .args in
     let lp = c .before .before .before .before .before .before .before .loop in
     let found = c .before .try-model in
-    filled-more (a .sizes .now) (a .losses .now) (a .path-sizes .now) (a .path-losses .now) (lp .path-sizes) (lp .path-losses) (lp .entries) (lp .tests) (lp .i) (lp .inv) (c .before .before .before .before .before .before .before .before .before .before .before .before .pre) (c .before .before .before .before .before .before .loop-test .taken) (found .result .entries) (found .result .tests) (ap (λ (x : Kept). x .entries) (found .ensures)) (ap (λ (x : Kept). x .tests) (found .ensures))
+    (omega arith, built-pushed (a .sizes .now) (a .losses .now) (a .path-sizes .now) (a .path-losses .now) (lp .path-sizes) (lp .path-losses) (lp .entries) (lp .tests .count) (lp .i) (lp .inv .1) (c .before .before .before .before .before .before .before .before .before .before .before .before .before .pre) (c .before .before .before .before .before .before .loop-test .taken) (found .result .entries) (ap (λ (x : Kept). x .entries) (found .ensures)) (found .result .tests .count) (ap (λ (x : Kept). x .tests .count) (found .ensures)))
 
 same-length : tie.Need-same-length Inv-loop μ-loop
-same-length c = c .before .loop .inv .held .sizes-long
+same-length c = c .before .loop .inv .1 .held .sizes .long
 
 same-length-2 : tie.Need-same-length-2 Inv-loop μ-loop
-same-length-2 c = c .before .loop .inv .held .losses-long
+same-length-2 c = c .before .loop .inv .1 .held .losses .long
 
 returns : tie.Need-returns Inv-loop μ-loop
 returns c =
-    let a = c .before .before .before .before .before .before .args in
+    let a = c .before .before .before .before .before .before .before .args in
     let lp = c .before .loop in
-    let e : lp .i ≡ length (a .sizes .now) = omega (arith, lp .inv .within) in
-    subst (λ (i : ℕ). Filled (a .sizes .now) (a .losses .now) (a .path-sizes .now) (a .path-losses .now) (lp .path-sizes) (lp .path-losses) (lp .entries) (lp .tests) i) e (lp .inv)
+    let e : lp .i ≡ length (a .sizes .now) = omega arith in
+    subst (λ (i : ℕ). BuiltIn (a .sizes .now) (a .losses .now) (a .path-sizes .now) (a .path-losses .now) (lp .path-sizes) (lp .path-losses) (lp .entries) (lp .tests .count) i) e (lp .inv .1)
 
 pub fill-spec : {M : Type 1} → statement M
 fill-spec =
@@ -105,6 +97,7 @@ fill-spec =
     (tie.spec
     Inv-loop
     μ-loop
+    none-requires
     loop-holds
     mul-size
     shared-slice-read-size
@@ -116,7 +109,6 @@ fill-spec =
     mul-path-losses
     slice-write-path-losses
     add-entries
-    add-tests
     add-i
     loop-less
     loop-again

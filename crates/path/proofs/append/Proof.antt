@@ -1,13 +1,20 @@
 -- `path::append` meets its contract: refused for its input, refused for want of room, or accepted, with both lists stored.
 use mathlib.Core.Path.{ap, sym, _∙_}
+use mathlib.Core.List.{[], _∷_}
+use Prim.Native.Nat.{_+_}
 use native.Mathlib.Omega.{arith}
+use lib.ListN.{length}
 use borrow.Author.Tests.{not-true, not-false}
 use Rattle.path.specs.declared.Kept.{Kept}
-use Rattle.path.specs.Model.{model}
-use Rattle.path.specs.Append.{pathOutcome}
 use Rattle.path.specs.declared.PathResult.{PathResult}
-use Rattle.path.proofs.Order.{acceptable, room-parts}
-use Rattle.path.proofs.Cases.{input-refused, room-refused, accepted}
+use Rattle.path.specs.declared.tally.Tally.{Tally}
+use Rattle.path.specs.Model.{model}
+use Rattle.path.specs.Refusal.{maxModels}
+use Rattle.path.specs.Append.{pathOutcome}
+use Rattle.path.proofs.Checks.{room-parts}
+use Rattle.path.proofs.Order.{acceptable}
+use Rattle.path.proofs.Cases.{input-refused, kept-small, room-refused, accepted}
+use borrow.Author.Needs.{needs}
 use borrow.Author.Needs.{needs}
 use Rattle.path.proofs.append.Statement.{statement}
 use Rattle.path.proofs.append.Tie as tie
@@ -27,14 +34,24 @@ same-length-2 c = search needs
 returns : tie.Need-returns
 returns c =
     let a = c .before .before .before .before .before .before .before .args in
-    ap (λ (r : PathResult). pathOutcome r (a .sizes .now) (a .losses .now)) (c .refuse .ensures)
-    ∙ input-refused (a .sizes .now) (a .losses .now) (a .entries) (model (a .size) (a .loss)) (c .before .before .input-refusal .result) (c .before .before .input-refusal .ensures) (c .before .if1 .taken)
+    let r = c .before .before .input-refusal in
+    ap (λ (x : PathResult). pathOutcome x (a .sizes .now) (a .losses .now)) (c .refuse .ensures)
+    ∙ input-refused (a .sizes .now) (a .losses .now) (a .entries) (model (a .size) (a .loss)) (r .result) (r .ensures) (c .before .if1 .taken)
+
+none-requires : tie.Need-none-requires
+none-requires c κs = search needs
 
 try-model-requires : tie.Need-try-model-requires
-try-model-requires c κs = sym (c .before .before .before .input-refusal .ensures) ∙ c .before .before .if1 .left
+try-model-requires c κs = (sym (c .before .before .before .before .input-refusal .ensures) ∙ c .before .before .before .if1 .left, omega (arith, ap (λ (x : Tally). x .count) (c .none .ensures)))
 
-has-room-requires : tie.Need-has-room-requires
-has-room-requires c κs = search needs
+add-end : tie.Need-add-end
+add-end c =
+    let a = c .before .before .before .before .before .before .before .before .before .before .args in
+    let f = c .try-model in
+    omega (arith, kept-small (a .sizes .now) (a .losses .now) (a .entries) (model (a .size) (a .loss)) (sym (c .before .before .before .before .before .input-refusal .ensures) ∙ c .before .before .before .before .if1 .left) (f .result .entries) (ap (λ (x : Kept). x .entries) (f .ensures)))
+
+path-has-room-requires : tie.Need-path-has-room-requires
+path-has-room-requires c κs = search needs
 
 refuse-requires-2 : tie.Need-refuse-requires-2
 refuse-requires-2 c κs = search needs
@@ -47,30 +64,24 @@ same-length-4 c = search needs
 
 returns-2 : tie.Need-returns-2
 returns-2 c =
-    let a = c .before .before .before .before .before .before .before .before .before .before .before .before .args in
-    let found = c .before .before .before .try-model in
-    ap (λ (r : PathResult). pathOutcome r (a .sizes .now) (a .losses .now)) (c .refuse2 .ensures)
-    ∙ room-refused (a .sizes .now) (a .losses .now) (a .entries) (model (a .size) (a .loss)) (sym (c .before .before .before .before .before .before .before .input-refusal .ensures) ∙ c .before .before .before .before .before .before .if1 .left) (found .result .entries) (ap (λ (x : Kept). x .entries) (found .ensures)) (sym (c .before .before .has-room .ensures) ∙ not-true _ (c .before .if2 .taken))
+    let a = c .before .before .before .before .before .before .before .before .before .before .before .before .before .args in
+    let f = c .before .before .before .try-model in
+    ap (λ (x : PathResult). pathOutcome x (a .sizes .now) (a .losses .now)) (c .refuse2 .ensures)
+    ∙ room-refused (a .sizes .now) (a .losses .now) (a .entries) (model (a .size) (a .loss)) (sym (c .before .before .before .before .before .before .before .before .input-refusal .ensures) ∙ c .before .before .before .before .before .before .before .if1 .left) (f .result .entries) (ap (λ (x : Kept). x .entries) (f .ensures)) (sym (c .before .before .path-has-room .ensures) ∙ not-true _ (c .before .if2 .taken))
 
 store-requires : tie.Need-store-requires
 store-requires c κs =
-    let a = c .before .before .before .before .before .before .before .before .before .before .before .before .args in
-    let room = room-parts (a .sizes .now) (a .losses .now) (c .before .before .before .try-model .result .entries) (sym (c .before .before .has-room .ensures) ∙ not-false _ (c .before .if2 .left)) in
-    let ok = acceptable (a .sizes .now) (a .losses .now) (a .entries) (model (a .size) (a .loss)) (sym (c .before .before .before .before .before .before .before .input-refusal .ensures) ∙ c .before .before .before .before .before .before .if1 .left) in
-    (room .in-sizes, ok .valid .in-sizes)
+    let a = c .before .before .before .before .before .before .before .before .before .before .before .before .before .args in
+    let room = room-parts (c .before .before .before .try-model .result .entries + 1) (length (a .sizes .now) ∷ length (a .losses .now) ∷ maxModels ∷ []) (sym (c .before .before .path-has-room .ensures) ∙ not-false _ (c .before .if2 .left)) in
+    let ok = acceptable (a .sizes .now) (a .losses .now) (a .entries) (model (a .size) (a .loss)) (sym (c .before .before .before .before .before .before .before .before .input-refusal .ensures) ∙ c .before .before .before .before .before .before .before .if1 .left) in
+    (omega (arith, room .0), ok .valid .in-sizes)
 
 store-requires-2 : tie.Need-store-requires-2
 store-requires-2 c κs =
-    let a = c .before .before .before .before .before .before .before .before .before .before .before .before .before .before .before .before .args in
-    let room = room-parts (a .sizes .now) (a .losses .now) (c .before .before .before .before .before .before .before .try-model .result .entries) (sym (c .before .before .before .before .before .before .has-room .ensures) ∙ not-false _ (c .before .before .before .before .before .if2 .left)) in
-    let ok = acceptable (a .sizes .now) (a .losses .now) (a .entries) (model (a .size) (a .loss)) (sym (c .before .before .before .before .before .before .before .before .before .before .before .input-refusal .ensures) ∙ c .before .before .before .before .before .before .before .before .before .before .if1 .left) in
-    (room .in-losses, ok .valid .in-losses)
-
-add-t18 : tie.Need-add-t18
-add-t18 c =
-    let a = c .before .before .before .before .before .before .before .before .before .before .before .before .before .before .before .before .before .before .before .args in
-    let room = room-parts (a .sizes .now) (a .losses .now) (c .before .before .before .before .before .before .before .before .before .before .try-model .result .entries) (sym (c .before .before .before .before .before .before .before .before .before .has-room .ensures) ∙ not-false _ (c .before .before .before .before .before .before .before .before .if2 .left)) in
-    omega (arith, room .few)
+    let a = c .before .before .before .before .before .before .before .before .before .before .before .before .before .before .before .before .before .args in
+    let room = room-parts (c .before .before .before .before .before .before .before .try-model .result .entries + 1) (length (a .sizes .now) ∷ length (a .losses .now) ∷ maxModels ∷ []) (sym (c .before .before .before .before .before .before .path-has-room .ensures) ∙ not-false _ (c .before .before .before .before .before .if2 .left)) in
+    let ok = acceptable (a .sizes .now) (a .losses .now) (a .entries) (model (a .size) (a .loss)) (sym (c .before .before .before .before .before .before .before .before .before .before .before .before .input-refusal .ensures) ∙ c .before .before .before .before .before .before .before .before .before .before .before .if1 .left) in
+    (omega (arith, room .1 .0), ok .valid .in-losses)
 
 same-length-5 : tie.Need-same-length-5
 same-length-5 c = search needs
@@ -80,11 +91,10 @@ same-length-6 c = search needs
 
 returns-3 : tie.Need-returns-3
 returns-3 c =
-    let a = c .before .before .before .before .before .before .before .before .before .before .before .before .before .before .before .before .before .before .before .args in
-    let found = c .before .before .before .before .before .before .before .before .before .before .try-model in
-    let enough = sym (c .before .before .before .before .before .before .before .before .before .has-room .ensures) ∙ not-false _ (c .before .before .before .before .before .before .before .before .if2 .left) in
-    let room = room-parts (a .sizes .now) (a .losses .now) (found .result .entries) enough in
-    accepted (a .sizes .now) (a .losses .now) (a .entries) (model (a .size) (a .loss)) (sym (c .before .before .before .before .before .before .before .before .before .before .before .before .before .before .input-refusal .ensures) ∙ c .before .before .before .before .before .before .before .before .before .before .before .before .before .if1 .left) (found .result .entries) (ap (λ (x : Kept). x .entries) (found .ensures)) enough (room .in-sizes) (room .in-losses) (found .result .tests) (c .before .before .before .before .before .before .store .last .0) (c .before .before .store2 .last .0) (ap (λ (x : Kept). x .tests) (found .ensures)) (c .before .before .before .before .before .before .store .ensures) (c .before .before .store2 .ensures)
+    let a = c .before .before .before .before .before .before .before .before .before .before .before .before .before .before .before .before .before .before .before .before .before .args in
+    let f = c .before .before .before .before .before .before .before .before .before .before .before .try-model in
+    let none = ap (λ (x : Tally). x .count) (c .before .before .before .before .before .before .before .before .before .before .before .before .none .ensures) in
+    accepted (a .sizes .now) (a .losses .now) (a .entries) (model (a .size) (a .loss)) (sym (c .before .before .before .before .before .before .before .before .before .before .before .before .before .before .before .before .input-refusal .ensures) ∙ c .before .before .before .before .before .before .before .before .before .before .before .before .before .before .before .if1 .left) (f .result .entries) (ap (λ (x : Kept). x .entries) (f .ensures)) (sym (c .before .before .before .before .before .before .before .before .before .before .path-has-room .ensures) ∙ not-false _ (c .before .before .before .before .before .before .before .before .before .if2 .left)) (f .result .tests .count) (c .before .before .before .before .before .before .before .store .last .0) (c .before .before .before .store2 .last .0) (omega (arith, ap (λ (x : Kept). x .tests .count) (f .ensures), none)) (c .before .before .before .before .before .before .before .store .ensures) (c .before .before .before .store2 .ensures)
 
 pub append-spec : {M : Type 1} → statement M
 append-spec =
@@ -95,15 +105,16 @@ append-spec =
     same-length
     same-length-2
     returns
+    none-requires
     try-model-requires
-    has-room-requires
+    add-end
+    path-has-room-requires
     refuse-requires-2
     same-length-3
     same-length-4
     returns-2
     store-requires
     store-requires-2
-    add-t18
     same-length-5
     same-length-6
     returns-3)
