@@ -21,7 +21,7 @@ use Rattle.select.specs.Select.{selectedFrom, selected, selectOf, selection}
 use Rattle.select.specs.declared.SelectResult.{SelectResult}
 use Rattle.select.proofs.Walks.{Selectable, accepted, selected-within, select-done}
 use Rattle.least.specs.Segmentation.{least, startsOf, levelsOf, lossOf}
-use Rattle.least.specs.Table.{TraceFrom, LevelsFrom}
+use Rattle.least.specs.Inner.{TraceFrom, LevelsFrom}
 use Rattle.least.proofs.Chosen.{starts-count, levels-count, starts-taken, chosen-loss}
 use Rattle.signal.specs.Signal.{modelOf, signalPath, segmentsAt, segmentation}
 use Rattle.signal.specs.Steps.{SegmentFrom, SegmentedAt}
