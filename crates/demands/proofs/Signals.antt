@@ -26,10 +26,10 @@ use Rattle.hull.proofs.Selections.{selected-with-skipped}
 use Rattle.hull.proofs.Orders.{in-order}
 use Rattle.hull.proofs.Penalties.{same-penalty-claim}
 use Rattle.segment.specs.Segment.{Samples16}
-use Rattle.least.specs.Segmentation.{Piece, Segmentation, lossOf, startsOf, levelsOf, least}
+use Rattle.least.specs.Segmentation.{Piece, Segmentation, lossOf, pieceStart, pieceLevel, startsOf, levelsOf, least}
 use Rattle.least.proofs.LeastLosses.{least-low}
 use Rattle.least.proofs.Optimality.{least-of-all, least-reached, earliest-starts, segmentation-long}
-use Rattle.least.proofs.Chosen.{levels-are-own, starts-rise, starts-count, levels-count, chosen-loss}
+use Rattle.least.proofs.Chosen.{levels-are-own, starts-rise, perPiece-count, chosen-loss}
 use Rattle.signal.specs.Signal.{sizeCount, modelOf, modelsUpTo, signalPath, segmentsAt, segmentation}
 use Rattle.signal.specs.Outcome.{SplitOutcome, SignalPathOutcome, lengthsOf, pathChecks, splitChecks, splitAt, signalPathOf, splitOf}
 use Rattle.signal.specs.Steps.{Solvable}
@@ -181,8 +181,8 @@ module _ (xs : List ℤ) (limit p q : ℕ) (starts : List ℕ) (levels : List �
       pub gives : GivesCheapest xs limit p q (splitAt xs (signalPath xs count) count p q starts levels sizes losses scratch) (segmentation xs given)
       gives =
           let reached = least-reached xs (given - 1) enough in
-          let starts-long : length (startsOf (segmentation xs given)) ≡ given = starts-count xs (given - 1) (length xs) ∙ one-more in
-          let levels-long : length (levelsOf (segmentation xs given)) ≡ given = levels-count xs (given - 1) (length xs) ∙ one-more in
+          let starts-long : length (startsOf (segmentation xs given)) ≡ given = perPiece-count pieceStart xs (given - 1) (length xs) ∙ one-more in
+          let levels-long : length (levelsOf (segmentation xs given)) ≡ given = perPiece-count pieceLevel xs (given - 1) (length xs) ∙ one-more in
           record {
             lawful = subst (λ (m : ℕ). Segmentation xs m (segmentation xs given)) one-more (reached .0);
             some = omega (arith, here .size);

@@ -56,7 +56,7 @@ pieces-cut (p ∷ g) f h = by-samples (p .samples) (p .level) (f .0) (omega (ari
     by-samples (x ∷ y ∷ xs) l some h ih = (piece (y ∷ xs) l ∷ piece (x ∷ []) l ∷ g, last-cut l x y xs g (f .1))
 
 -- A segmentation with fewer segments than samples can be cut once more, and keeps its loss.
-pub one-segment-more : (xs : List ℤ) (j : ℕ) (g : List Piece) → Segmentation xs j g → j < length xs → (finer : List Piece) × (Segmentation xs (suc j) finer × (lossOf finer ≡ lossOf g))
+one-segment-more : (xs : List ℤ) (j : ℕ) (g : List Piece) → Segmentation xs j g → j < length xs → (finer : List Piece) × (Segmentation xs (suc j) finer × (lossOf finer ≡ lossOf g))
 one-segment-more xs j g s h =
     let c = pieces-cut g (s .non-empty) (omega (arith, s .count, ap length (s .covers))) in
     let f = c .1 in

@@ -6,7 +6,7 @@ use native.Mathlib.Nat.{mul-add, add-mul, mul-comm, suc-mul, zero-mul, mul-zero,
 use native.Mathlib.Omega.{arith}
 use mathlib.Core.List.{List, [], _∷_}
 use lib.IntN.{ℤ, pos, negsuc, _+ℤ_, _-ℤ_}
-use lib.Signed.{_≤ℤ_, mag}
+use lib.Signed.{mag}
 use lib.ListN.{length, getD}
 use lib.Seq.{slice, length-slice, getD-take, getD-drop}
 use Rattle.segment.specs.Segment.{Sample16, Samples16, square, total, lossAt, levelOf, segmentLoss}

@@ -4,7 +4,7 @@ use native.Mathlib.Omega.{arith}
 use borrow.Author.Needs.{needs}
 use mir.Syntax.{w16}
 use mir.Facts.{toZ-ofZ}
-use Rattle.segment.proofs.Segments.{Between, between, sum-low, level-fits, Terms, terms}
+use Rattle.segment.proofs.Segments.{Between, between, sum-low, Terms, terms}
 use Rattle.segment.proofs.segment_loss.Statement.{statement}
 use Rattle.segment.proofs.segment_loss.Tie as tie
 
