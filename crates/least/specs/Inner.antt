@@ -9,7 +9,7 @@ use lib.ListN.{length, getD, take}
 use Rattle.layout.specs.Item.{item}
 use Rattle.segment.specs.Segment.{maxSamples, Samples16}
 use Rattle.segment.specs.Inner.{maxSquare, cellCount, Summed}
-use Rattle.least.specs.Segmentation.{maxSegments, lossWithLast, lastStart, least, startsOf, chosen}
+use Rattle.least.specs.Segmentation.{maxSegments, lossWithLast, lastStart, least, startsOf, chosenOf}
 use Rattle.least.specs.Scratch.{scratchLen}
 
 -- The byte at which the start of the last of m + 2 segments over the first j samples stands.
@@ -101,7 +101,7 @@ pub record LevelsFrom (xs : List ℤ) (starts : List ℕ) (levels : List ℤ) (k
   pub one : 0 < k
   pub enough : k ≤ length xs
   pub len-levels : k ≤ length levels
-  pub starts-are : take k starts ≡ startsOf (chosen xs (k - 1) (length xs))
+  pub starts-are : take k starts ≡ startsOf (chosenOf xs k)
 
 -- The same with the prefix sums at hand.
 pub record LevelsReady (xs : List ℤ) (sums squares starts : List ℕ) (levels : List ℤ) (k : ℕ) : Type 0 where

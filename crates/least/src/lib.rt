@@ -2,11 +2,12 @@
 // bytes, and the segmentation that the table spells. A row of losses is kept for one number of segments and updated in place.
 ghost use mathlib.Core.Path.{_≡_};
 ghost use mathlib.Core.List.{_++_};
-ghost use Prim.Native.Nat.{min, _-_};
+ghost use Prim.Native.Nat.{min};
 ghost use lib.ListN.{length, drop};
 ghost use Rattle.segment.specs.Inner.{cellCount, Summed};
-ghost use Rattle.least.specs.Segmentation.{startsOf, levelsOf, chosen};
-ghost use Rattle.least.specs.Inner.{PickFrom, Picked, NextFrom, NextRow, RowIs, RowsFrom, Table, TableFrom, TraceFrom, LevelsFrom, LevelsReady};
+ghost use Rattle.least.specs.Segmentation.{startsOf, levelsOf, chosenOf};
+ghost use Rattle.least.specs.Inner.{PickFrom, Picked, NextFrom, NextRow, RowIs, RowsFrom, Table, TableFrom};
+ghost use Rattle.least.specs.Inner.{TraceFrom, LevelsFrom, LevelsReady};
 use layout::get_u16;
 use layout::put_u16;
 use segment::CELLS;
@@ -76,7 +77,9 @@ fn next_row(
     m: usize,
 )
     requires { ⌜ NextFrom (now samples) (now sums) (now squares) (now row) (now scratch) m ⌝ }
-    ensures { λ r. ⌜ NextRow (now (samples .entry)) m (now (row .exit)) (now (scratch .entry)) (now (scratch .exit)) ⌝ }
+    ensures { λ r. ⌜
+        NextRow (now (samples .entry)) m (now (row .exit)) (now (scratch .entry)) (now (scratch .exit))
+        ⌝ }
 {
     let low = m + 1;
     let base = MAX_SAMPLES * m;
@@ -140,7 +143,10 @@ pub fn fill_table(
     scratch: &mut [u8],
 ) -> usize
     requires { ⌜ TableFrom (now samples) «max_segments» (now losses) (now scratch) ⌝ }
-    ensures { λ r. ⌜ (r ≡ min «max_segments» (length (now (samples .entry)))) × Table (now (samples .entry)) r (now (losses .exit)) (now (scratch .exit)) ⌝ }
+    ensures { λ r. ⌜
+        (r ≡ min «max_segments» (length (now (samples .entry))))
+        × Table (now (samples .entry)) r (now (losses .exit)) (now (scratch .exit))
+        ⌝ }
 {
     let mut sums = [0u32; CELLS];
     let mut squares = [0u64; CELLS];
@@ -155,7 +161,9 @@ pub fn fill_table(
 // Writes the starts of the chosen segmentation, counted from 1, from the table.
 pub fn trace_back(samples: &[i16], scratch: &[u8], starts: &mut [u16], segments: usize)
     requires { ⌜ TraceFrom (now samples) (now scratch) (now starts) segments ⌝ }
-    ensures { λ r. ⌜ now (starts .exit) ≡ startsOf (chosen (now (samples .entry)) (segments - 1) (length (now (samples .entry)))) ++ drop segments (now (starts .entry)) ⌝ }
+    ensures { λ r. ⌜
+        now (starts .exit) ≡ startsOf (chosenOf (now (samples .entry)) segments) ++ drop segments (now (starts .entry))
+        ⌝ }
 {
     let mut left = segments;
     let mut j = samples.len();
@@ -178,7 +186,9 @@ fn levels_back(
     segments: usize,
 )
     requires { ⌜ LevelsReady (now samples) (now sums) (now squares) (now starts) (now levels) segments ⌝ }
-    ensures { λ r. ⌜ now (levels .exit) ≡ levelsOf (chosen (now (samples .entry)) (segments - 1) (length (now (samples .entry)))) ++ drop segments (now (levels .entry)) ⌝ }
+    ensures { λ r. ⌜
+        now (levels .exit) ≡ levelsOf (chosenOf (now (samples .entry)) segments) ++ drop segments (now (levels .entry))
+        ⌝ }
 {
     let mut left = segments;
     let mut to = samples.len();
@@ -194,7 +204,9 @@ fn levels_back(
 // Writes the levels of the chosen segmentation from its starts.
 pub fn put_levels(samples: &[i16], starts: &[u16], levels: &mut [i16], segments: usize)
     requires { ⌜ LevelsFrom (now samples) (now starts) (now levels) segments ⌝ }
-    ensures { λ r. ⌜ now (levels .exit) ≡ levelsOf (chosen (now (samples .entry)) (segments - 1) (length (now (samples .entry)))) ++ drop segments (now (levels .entry)) ⌝ }
+    ensures { λ r. ⌜
+        now (levels .exit) ≡ levelsOf (chosenOf (now (samples .entry)) segments) ++ drop segments (now (levels .entry))
+        ⌝ }
 {
     let mut sums = [0u32; CELLS];
     let mut squares = [0u64; CELLS];
