@@ -9,11 +9,11 @@ use Rattle.select.specs.Select.{selectedFrom, selectOf}
 use Rattle.select.specs.Breakpoints.{numeratorsOf, denominatorsOf, breakpointsOf}
 use Rattle.segment.specs.Segment.{level, square, total, lossAt, segmentLoss}
 use Rattle.least.specs.Earliest.{earliestLeast}
-use Rattle.least.specs.Segmentation.{covered, lossOf, startsOf, levelsOf, lossWithLast, lastStart, least, chosen}
+use Rattle.least.specs.Segmentation.{covered, lossOf, perPiece, lossWithLast, lastStart, least, chosen}
 use Rattle.signal.specs.Signal.{signalPath}
 use Rattle.signal.specs.Outcome.{splitOf}
 use Rattle.demands.specs.Figures.{table, holdsAll}
 
 pub figures : holdsAll table ≡ true
-unfolding pathOf sizesOf lossesOf kept testsMade pathBreakpoints refusalOf ordered validPath sizeAbove lossBelow built builtTests listChecks buildOf selectedFrom selectOf numeratorsOf denominatorsOf breakpointsOf level square total lossAt segmentLoss earliestLeast covered lossOf startsOf levelsOf lossWithLast lastStart least chosen signalPath splitOf
+unfolding pathOf sizesOf lossesOf kept testsMade pathBreakpoints refusalOf ordered validPath sizeAbove lossBelow built builtTests listChecks buildOf selectedFrom selectOf numeratorsOf denominatorsOf breakpointsOf level square total lossAt segmentLoss earliestLeast covered lossOf perPiece lossWithLast lastStart least chosen signalPath splitOf
 figures = refl

@@ -6,9 +6,8 @@ use mathlib.Core.List.{List}
 use Prim.Native.Nat.{ℕ, suc, _+_, _*_, _-_, _≤_, _<_}
 use native.Mathlib.Nat.{mul-le-mul-left}
 use native.Mathlib.Omega.{arith}
-use lib.IntN.{ℤ, pos, negsuc}
-use lib.Signed.{mag, _≤ℤ_}
-use lib.ListN.{length, getD, drop, replicate}
+use lib.IntN.{ℤ}
+use lib.ListN.{length, drop, replicate}
 use lib.Seq.{take-at}
 use Rattle.path.specs.Model.{Model, model, sizesOf, lossesOf}
 use Rattle.path.specs.Refusal.{refusalOf, ordered, maxLoss, maxModels}
@@ -26,28 +25,19 @@ use Rattle.hull.proofs.Winners.{winners-with-skipped}
 use Rattle.hull.proofs.Selections.{selected-with-skipped}
 use Rattle.hull.proofs.Orders.{in-order}
 use Rattle.hull.proofs.Penalties.{same-penalty-claim}
-use Rattle.segment.proofs.Integers.{le-PN}
-use Rattle.segment.proofs.Bounds as bounds
-use Rattle.least.specs.Segmentation.{Piece, Segmentation, lossOf, startsOf, levelsOf, least}
+use Rattle.segment.specs.Segment.{Samples16}
+use Rattle.least.specs.Segmentation.{Piece, Segmentation, lossOf, pieceStart, pieceLevel, startsOf, levelsOf, least}
 use Rattle.least.proofs.LeastLosses.{least-low}
 use Rattle.least.proofs.Optimality.{least-of-all, least-reached, earliest-starts, segmentation-long}
-use Rattle.least.proofs.Chosen.{levels-are-own, starts-rise, starts-count, levels-count, chosen-loss}
+use Rattle.least.proofs.Chosen.{levels-are-own, starts-rise, perPiece-count, chosen-loss}
 use Rattle.signal.specs.Signal.{sizeCount, modelOf, modelsUpTo, signalPath, segmentsAt, segmentation}
 use Rattle.signal.specs.Outcome.{SplitOutcome, SignalPathOutcome, lengthsOf, pathChecks, splitChecks, splitAt, signalPathOf, splitOf}
 use Rattle.signal.specs.Steps.{Solvable}
 use Rattle.signal.proofs.Inputs.{path-solvable, Splittable, splittable}
 use Rattle.signal.proofs.Paths.{path-few, path-ordered}
 use Rattle.signal.proofs.Selections.{PathIn, Entry, entry, in-buffers, path-alone}
-use Rattle.demands.specs.Signals.{Samples, GivesCheapest, SelectsSmallest, SplitClaim, SignalPathClaim, SplitPathClaim, SignalSelectClaim, SplitSelectClaim, SameSplitClaim, SignalOrderClaim}
+use Rattle.demands.specs.Signals.{GivesCheapest, SelectsSmallest, SplitClaim, SignalPathClaim, SplitPathClaim, SignalSelectClaim, SplitSelectClaim, SameSplitClaim, SignalOrderClaim}
 use Rattle.demands.proofs.Tried.{appended, path-sound, tried-or-skipped, size-listed}
-
--- 16-bit samples in the words of the theory of segments
-sixteen : (x : ℤ) → negsuc 32767 ≤ℤ x → x ≤ℤ pos 32767 → mag x < 32768
-sixteen (pos n) h g = omega (arith, le-PN (pos n) (pos 32767) g)
-sixteen (negsuc n) h g = omega (arith, le-PN (negsuc 32767) (negsuc n) h)
-
-small : (xs : List ℤ) → Samples xs → bounds.Samples xs
-small xs h i l = sixteen (getD xs i (pos 0)) (h i l .0) (h i l .1)
 
 -- the path of all sizes that occur lists the winners among them
 pub path-of-winners : (xs : List ℤ) (k : ℕ) → PathOfWinners (signalPath xs k) (modelsUpTo xs k)
@@ -76,12 +66,12 @@ module _ (xs : List ℤ) (count : ℕ) (s l : List ℕ) (n p q : ℕ) (ok : Path
       subst (λ (m : Model). SmallestCheapest p q m (modelsUpTo xs count)) same (selects-smallest .smallest)
 
 -- the path of a signal that a record call accepts
-module _ (xs : List ℤ) (limit : ℕ) (sizes losses scratch : List ℕ) (bits : Samples xs) (ok : Solvable xs limit sizes losses scratch) where
+module _ (xs : List ℤ) (limit : ℕ) (sizes losses scratch : List ℕ) (bits : Samples16 xs) (ok : Solvable xs limit sizes losses scratch) where
   abbrev path : List Model
   path = signalPath xs (sizeCount xs limit)
 
   low : (m : ℕ) → m < sizeCount xs limit → least xs m (length xs) ≤ maxLoss
-  low m g = omega (arith, least-low xs (small xs bits) m (length xs) (omega arith) (omega arith), ok .short)
+  low m g = omega (arith, least-low xs bits m (length xs) (omega arith) (omega arith), ok .short)
 
   order : ordered path ≡ true
   order = path-ordered xs (sizeCount xs limit) (omega (arith, ok .few)) low
@@ -136,7 +126,7 @@ module _ (xs : List ℤ) (limit p q : ℕ) (starts : List ℕ) (levels : List �
     pub asked : Splittable xs limit p q (length starts) (length levels) sizes losses scratch
     asked = splittable xs limit p q (length starts) (length levels) sizes losses scratch none-refused
 
-    module _ (bits : Samples xs) where
+    module _ (bits : Samples16 xs) where
       path-in : PathIn xs count (sizesOf (signalPath xs count)) (lossesOf (signalPath xs count)) (length (signalPath xs count)) p q
       path-in = path-by-itself xs limit sizes losses scratch bits (asked .solvable) p q (asked .penalty)
 
@@ -191,8 +181,8 @@ module _ (xs : List ℤ) (limit p q : ℕ) (starts : List ℕ) (levels : List �
       pub gives : GivesCheapest xs limit p q (splitAt xs (signalPath xs count) count p q starts levels sizes losses scratch) (segmentation xs given)
       gives =
           let reached = least-reached xs (given - 1) enough in
-          let starts-long : length (startsOf (segmentation xs given)) ≡ given = starts-count xs (given - 1) (length xs) ∙ one-more in
-          let levels-long : length (levelsOf (segmentation xs given)) ≡ given = levels-count xs (given - 1) (length xs) ∙ one-more in
+          let starts-long : length (startsOf (segmentation xs given)) ≡ given = perPiece-count pieceStart xs (given - 1) (length xs) ∙ one-more in
+          let levels-long : length (levelsOf (segmentation xs given)) ≡ given = perPiece-count pieceLevel xs (given - 1) (length xs) ∙ one-more in
           record {
             lawful = subst (λ (m : ℕ). Segmentation xs m (segmentation xs given)) one-more (reached .0);
             some = omega (arith, here .size);

@@ -88,7 +88,7 @@ fn wide(start: u16) -> u64 {
 
 // A level raised by 32,768, so that it is not negative.
 fn raise(level: i16) -> u64 {
-    (level as i32 + 32768) as u64
+    segment::raise(level) as u64
 }
 
 // Prints a level.

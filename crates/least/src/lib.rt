@@ -2,20 +2,26 @@
 // bytes, and the segmentation that the table spells. A row of losses is kept for one number of segments and updated in place.
 ghost use mathlib.Core.Path.{_≡_};
 ghost use mathlib.Core.List.{_++_};
-ghost use Prim.Native.Nat.{min, _-_};
+ghost use Prim.Native.Nat.{min};
 ghost use lib.ListN.{length, drop};
-ghost use Rattle.segment.specs.Prefix.{Summed};
-ghost use Rattle.least.specs.Segmentation.{startsOf, levelsOf, chosen};
-ghost use Rattle.least.specs.Table.{PickFrom, Picked, NextFrom, NextRow, RowIs, RowsFrom, Table, TableFrom, TraceFrom, LevelsFrom, LevelsReady};
+ghost use Rattle.segment.specs.Inner.{cellCount, Summed};
+ghost use Rattle.least.specs.Segmentation.{startsOf, levelsOf, chosenOf};
+ghost use Rattle.least.specs.Inner.{PickFrom, Picked, NextFrom, NextRow, RowIs, RowsFrom, Table, TableFrom};
+ghost use Rattle.least.specs.Inner.{TraceFrom, LevelsFrom, LevelsReady};
 use layout::get_u16;
 use layout::put_u16;
+use segment::CELLS;
+use segment::MAX_SAMPLES;
 use segment::prefix_sums;
 use segment::segment_level;
 use segment::segment_loss;
 
-// The scratch bytes that the table of starts takes: 31 rows of 512 starts of two bytes. For the last of m + 2 segments over the
-// first j samples the number of samples before it is the item at byte 2 * (512 * m + (j - 1)).
-pub const SCRATCH_LEN: usize = 31744;
+// The most segments that a caller may ask for.
+pub const MAX_SEGMENTS: usize = 32;
+
+// The scratch bytes that the table of starts takes, 31,744: for each number of segments from 2 on a row of one start of two bytes for
+// each number of samples. A start there is the number of samples before the last segment.
+pub const SCRATCH_LEN: usize = 2 * (MAX_SAMPLES * (MAX_SEGMENTS - 1));
 
 // A last segment: the number of samples before it, and the loss of it and of what stands before it.
 struct LastSegment {
@@ -71,10 +77,12 @@ fn next_row(
     m: usize,
 )
     requires { ⌜ NextFrom (now samples) (now sums) (now squares) (now row) (now scratch) m ⌝ }
-    ensures { λ r. ⌜ NextRow (now (samples .entry)) m (now (row .exit)) (now (scratch .entry)) (now (scratch .exit)) ⌝ }
+    ensures { λ r. ⌜
+        NextRow (now (samples .entry)) m (now (row .exit)) (now (scratch .entry)) (now (scratch .exit))
+        ⌝ }
 {
     let low = m + 1;
-    let base = 512 * m;
+    let base = MAX_SAMPLES * m;
     let mut j = samples.len();
     while low < j {
         let last = pick_start(samples, sums, squares, row, low, j);
@@ -86,7 +94,7 @@ fn next_row(
 
 // The losses of one segment over the first j samples, for each j.
 fn first_row(samples: &[i16], sums: &[u32], squares: &[u64], row: &mut [u64])
-    requires { ⌜ Summed (now samples) (now sums) (now squares) × (length (now row) ≡ 513) ⌝ }
+    requires { ⌜ Summed (now samples) (now sums) (now squares) × (length (now row) ≡ cellCount) ⌝ }
     ensures { λ r. ⌜ RowIs (now (samples .entry)) 0 (now (row .exit)) ⌝ }
 {
     let n = samples.len();
@@ -121,7 +129,7 @@ fn all_rows(
 }
 
 // The smaller of two numbers.
-fn smaller(a: usize, b: usize) -> usize
+pub fn smaller(a: usize, b: usize) -> usize
     ensures { λ r. ⌜ r ≡ min a b ⌝ }
 {
     if a < b { a } else { b }
@@ -135,11 +143,14 @@ pub fn fill_table(
     scratch: &mut [u8],
 ) -> usize
     requires { ⌜ TableFrom (now samples) «max_segments» (now losses) (now scratch) ⌝ }
-    ensures { λ r. ⌜ (r ≡ min «max_segments» (length (now (samples .entry)))) × Table (now (samples .entry)) r (now (losses .exit)) (now (scratch .exit)) ⌝ }
+    ensures { λ r. ⌜
+        (r ≡ min «max_segments» (length (now (samples .entry))))
+        × Table (now (samples .entry)) r (now (losses .exit)) (now (scratch .exit))
+        ⌝ }
 {
-    let mut sums = [0u32; 513];
-    let mut squares = [0u64; 513];
-    let mut row = [0u64; 513];
+    let mut sums = [0u32; CELLS];
+    let mut squares = [0u64; CELLS];
+    let mut row = [0u64; CELLS];
     prefix_sums(samples, &mut sums, &mut squares);
     first_row(samples, &sums, &squares, &mut row);
     let k = smaller(max_segments, samples.len());
@@ -150,13 +161,15 @@ pub fn fill_table(
 // Writes the starts of the chosen segmentation, counted from 1, from the table.
 pub fn trace_back(samples: &[i16], scratch: &[u8], starts: &mut [u16], segments: usize)
     requires { ⌜ TraceFrom (now samples) (now scratch) (now starts) segments ⌝ }
-    ensures { λ r. ⌜ now (starts .exit) ≡ startsOf (chosen (now (samples .entry)) (segments - 1) (length (now (samples .entry)))) ++ drop segments (now (starts .entry)) ⌝ }
+    ensures { λ r. ⌜
+        now (starts .exit) ≡ startsOf (chosenOf (now (samples .entry)) segments) ++ drop segments (now (starts .entry))
+        ⌝ }
 {
     let mut left = segments;
     let mut j = samples.len();
     while 1 < left {
         left -= 1;
-        let before = get_u16(scratch, 2 * (512 * (left - 1) + (j - 1)));
+        let before = get_u16(scratch, 2 * (MAX_SAMPLES * (left - 1) + (j - 1)));
         starts[left] = before + 1;
         j = before as usize;
     }
@@ -173,7 +186,9 @@ fn levels_back(
     segments: usize,
 )
     requires { ⌜ LevelsReady (now samples) (now sums) (now squares) (now starts) (now levels) segments ⌝ }
-    ensures { λ r. ⌜ now (levels .exit) ≡ levelsOf (chosen (now (samples .entry)) (segments - 1) (length (now (samples .entry)))) ++ drop segments (now (levels .entry)) ⌝ }
+    ensures { λ r. ⌜
+        now (levels .exit) ≡ levelsOf (chosenOf (now (samples .entry)) segments) ++ drop segments (now (levels .entry))
+        ⌝ }
 {
     let mut left = segments;
     let mut to = samples.len();
@@ -189,10 +204,12 @@ fn levels_back(
 // Writes the levels of the chosen segmentation from its starts.
 pub fn put_levels(samples: &[i16], starts: &[u16], levels: &mut [i16], segments: usize)
     requires { ⌜ LevelsFrom (now samples) (now starts) (now levels) segments ⌝ }
-    ensures { λ r. ⌜ now (levels .exit) ≡ levelsOf (chosen (now (samples .entry)) (segments - 1) (length (now (samples .entry)))) ++ drop segments (now (levels .entry)) ⌝ }
+    ensures { λ r. ⌜
+        now (levels .exit) ≡ levelsOf (chosenOf (now (samples .entry)) segments) ++ drop segments (now (levels .entry))
+        ⌝ }
 {
-    let mut sums = [0u32; 513];
-    let mut squares = [0u64; 513];
+    let mut sums = [0u32; CELLS];
+    let mut squares = [0u64; CELLS];
     prefix_sums(samples, &mut sums, &mut squares);
     levels_back(samples, &sums, &squares, starts, levels, segments);
 }

@@ -9,50 +9,63 @@ use lib.IntN.{ℤ, pos, negsuc, _+ℤ_, _-ℤ_}
 use lib.Signed.{mag}
 use lib.ListN.{length, getD}
 use lib.Seq.{slice, length-slice, getD-take, getD-drop}
-use Rattle.segment.specs.Segment.{square, total, lossAt, levelOf, segmentLoss}
-use Rattle.segment.specs.Prefix.{raised, sumOf, raisedSum, raisedSquares}
-use Rattle.segment.proofs.Integers.{P, N, PN-add, PN-minus, not-negative, natAbs-PN, mag-PN}
+use Rattle.segment.specs.Segment.{Sample16, Samples16, square, total, lossAt, levelOf, segmentLoss}
+use Rattle.segment.specs.Inner.{offset, maxSquare, raised, sumOf, raisedSum, raisedSquares}
+use Rattle.segment.proofs.Integers.{P, N, PN-add, PN-minus, PN-le, le-PN, not-negative, natAbs-PN, mag-PN}
 use Rattle.segment.proofs.Nearest.{level-near}
 use Rattle.segment.proofs.Optimal.{level-least}
 use Rattle.segment.proofs.Sums.{sumOf-low}
 
--- All of xs are of 16 bits.
-abbrev pub Samples : List ℤ → Type 0
-Samples xs = (i : ℕ) → i < length xs → mag (getD xs i (pos 0)) < 32768
+-- What the range of a sample says of its parts.
+sample-PN : (x : ℤ) → Sample16 x → (N x ≤ P x + 32768) × (P x ≤ N x + 32767)
+sample-PN x h = (omega (arith, le-PN (negsuc 32767) x (h .0)), omega (arith, le-PN x (pos 32767) (h .1)))
+
+-- The range of a sample, from its parts.
+PN-sample : (x : ℤ) → N x ≤ P x + 32768 → P x ≤ N x + 32767 → Sample16 x
+PN-sample x h k = (PN-le (negsuc 32767) x (omega arith), PN-le x (pos 32767) (omega arith))
+
+-- A sample fits 16 bits.
+pub sample-fits : (x : ℤ) → Sample16 x → mag x < 32768
+sample-fits (pos n) h = omega (arith, sample-PN (pos n) h)
+sample-fits (negsuc n) h = omega (arith, sample-PN (negsuc n) h)
+
+-- What fits 16 bits is a sample.
+pub fits-sample : (x : ℤ) → mag x < 32768 → Sample16 x
+fits-sample x h = let m = mag-PN x h in PN-sample x (omega arith) (omega arith)
 
 -- A raised sample, by the sample's parts.
-pub raised-PN : (x : ℤ) → mag x < 32768 → P x + 32768 ≡ raised x + N x
+pub raised-PN : (x : ℤ) → Sample16 x → P x + offset ≡ raised x + N x
 unfolding raised
 raised-PN x h =
-    let z = x +ℤ pos 32768 in
-    let m = mag-PN x h in
-    let e = PN-add x (pos 32768) in
+    let z = x +ℤ pos offset in
+    let m = sample-PN x h in
+    let e = PN-add x (pos offset) in
     omega (arith, not-negative z (omega arith), natAbs-PN z)
 
 -- A raised sample is below 65,536.
-pub raised-low : (x : ℤ) → mag x < 32768 → raised x ≤ 65535
-raised-low x h = let m = mag-PN x h in omega (arith, raised-PN x h)
+pub raised-low : (x : ℤ) → Sample16 x → raised x ≤ 65535
+raised-low x h = let m = sample-PN x h in omega (arith, raised-PN x h)
 
 -- The samples of a slice are of 16 bits.
-pub slice-small : (i j : ℕ) (xs : List ℤ) → j ≤ length xs → Samples xs → Samples (slice i j xs)
+pub slice-small : (i j : ℕ) (xs : List ℤ) → j ≤ length xs → Samples16 xs → Samples16 (slice i j xs)
 slice-small i j xs h small k g =
     let e = length-slice i j xs h in
     rw (getD-drop, getD-take j xs (i + k) (pos 0) (omega arith)) (small (i + k) (omega arith))
 
 -- The sum of the samples, from the sum of the raised ones.
-pub total-PN : (xs : List ℤ) → Samples xs → P (total xs) + 32768 * length xs ≡ raisedSum xs + N (total xs)
+pub total-PN : (xs : List ℤ) → Samples16 xs → P (total xs) + offset * length xs ≡ raisedSum xs + N (total xs)
 unfolding total sumOf
 total-PN [] small = refl
 total-PN (x ∷ xs) small =
     omega (arith, raised-PN x (small 0 (omega arith)), total-PN xs (λ i h. small (suc i) (omega arith)), PN-add x (total xs))
 
 -- The sum of the raised samples is bounded, and that of their squares.
-pub raisedSum-low : (xs : List ℤ) → Samples xs → raisedSum xs ≤ 65535 * length xs
+pub raisedSum-low : (xs : List ℤ) → Samples16 xs → raisedSum xs ≤ 65535 * length xs
 raisedSum-low xs small = sumOf-low raised 65535 xs (λ i h. raised-low (getD xs i (pos 0)) (small i h))
 
-pub raisedSquares-low : (xs : List ℤ) → Samples xs → raisedSquares xs ≤ 4294836225 * length xs
+pub raisedSquares-low : (xs : List ℤ) → Samples16 xs → raisedSquares xs ≤ maxSquare * length xs
 raisedSquares-low xs small =
-    sumOf-low (λ (x : ℤ). raised x * raised x) 4294836225 xs
+    sumOf-low (λ (x : ℤ). raised x * raised x) maxSquare xs
     (λ i h. let l = raised-low (getD xs i (pos 0)) (small i h) in mul-le-mul l l)
 
 -- The square of u - v.
@@ -66,7 +79,7 @@ square-difference (negsuc t) u v h =
     rw e (simp (mul-add, add-mul, mul-comm) (omega arith))
 
 -- The loss at a level that is v once raised, from the sums of the raised samples.
-pub loss-raised : (l : ℤ) (v : ℕ) → P l + 32768 ≡ v + N l → (xs : List ℤ) → Samples xs → lossAt l xs + 2 * (v * raisedSum xs) ≡ raisedSquares xs + length xs * (v * v)
+pub loss-raised : (l : ℤ) (v : ℕ) → P l + offset ≡ v + N l → (xs : List ℤ) → Samples16 xs → lossAt l xs + 2 * (v * raisedSum xs) ≡ raisedSquares xs + length xs * (v * v)
 unfolding lossAt sumOf
 loss-raised l v r [] small = omega arith
 loss-raised l v r (x ∷ xs) small =
@@ -75,8 +88,8 @@ loss-raised l v r (x ∷ xs) small =
     let ih = loss-raised l v r xs (λ i h. small (suc i) (omega arith)) in
     omega (arith, mul-add v (raised x) (raisedSum xs), suc-mul (length xs) (v * v))
 
--- The level of samples of 16 bits is of 16 bits.
-pub level-small : (xs : List ℤ) → 0 < length xs → Samples xs → mag (levelOf xs) < 32768
+-- The level of samples is a sample.
+pub level-small : (xs : List ℤ) → 0 < length xs → Samples16 xs → Sample16 (levelOf xs)
 level-small xs h small =
     let n = length xs in
     let l = levelOf xs in
@@ -85,13 +98,9 @@ level-small xs h small =
     let b = raisedSum-low xs small in
     let lo : N l + N l ≤ P l + P l + 65537 = le-of-mul-le-mul-left {k = n} (simp (mul-add, mul-comm n 65537) (omega arith)) h in
     let hi : P l + P l < N l + N l + 65535 = lt-of-mul-lt-mul-left n (simp (mul-add, mul-comm n 65535) (omega arith)) in
-    both l lo hi
-  where
-    both : (l : ℤ) → N l + N l ≤ P l + P l + 65537 → P l + P l < N l + N l + 65535 → mag l < 32768
-    both (pos p) a b = omega arith
-    both (negsuc p) a b = omega arith
+    PN-sample l (omega arith) (omega arith)
 
 -- A segment's loss is at most that at level -32,768, where the samples are the raised ones.
-pub segment-low : (xs : List ℤ) → 0 < length xs → Samples xs → segmentLoss xs ≤ 4294836225 * length xs
+pub segment-low : (xs : List ℤ) → 0 < length xs → Samples16 xs → segmentLoss xs ≤ maxSquare * length xs
 segment-low xs h small =
     omega (arith, level-least xs h (negsuc 32767), loss-raised (negsuc 32767) 0 refl xs small, raisedSquares-low xs small, zero-mul (raisedSum xs), mul-zero (length xs))

@@ -8,32 +8,33 @@ use mathlib.Core.List.{List}
 use lib.IntN.{ℤ, pos, natAbs, _-ℤ_}
 use lib.ListN.{length, getD}
 use lib.Seq.{slice, length-slice}
-use lib.Signed.{mag}
-use Rattle.segment.specs.Segment.{total, levelOf, segmentLoss}
-use Rattle.segment.specs.Prefix.{raised, raisedSum, raisedSquares, Summed}
+use Rattle.segment.specs.Segment.{maxSamples, Sample16, Samples16, total, levelOf, segmentLoss}
+use Rattle.segment.specs.Inner.{offset, maxSquare, raised, raisedSum, raisedSquares, SegmentIn}
 use Rattle.segment.proofs.Integers.{PN-minus, ext, natAbs-le-PN}
-use Rattle.segment.proofs.Bounds.{Samples, slice-small, raised-PN, raised-low, total-PN, raisedSum-low, raisedSquares-low, loss-raised, level-small}
+use Rattle.segment.proofs.Bounds.{slice-small, raised-PN, raised-low, total-PN, raisedSum-low, raisedSquares-low, loss-raised, level-small}
 use Rattle.segment.proofs.Sums.{sumOf-slice}
 
 -- A segment and its prefix sums.
 pub record Between (samples : List ℤ) (sums squares : List ℕ) (from to : ℕ) : Type 0 where
   pub positive : from < to
-  pub count : to - from ≤ 512
+  pub count : to - from ≤ maxSamples
   pub len : length (slice from to samples) ≡ to - from
-  pub small : Samples (slice from to samples)
+  pub small : Samples16 (slice from to samples)
   pub sum : getD sums from 0 + raisedSum (slice from to samples) ≡ getD sums to 0
   pub square : getD squares from 0 + raisedSquares (slice from to samples) ≡ getD squares to 0
 
 -- What a ready pair of buffers says of a segment.
-pub between : {samples : List ℤ} {sums squares : List ℕ} {from to : ℕ} → Summed samples sums squares → from < to → to ≤ length samples → Between samples sums squares from to
-between {samples} {sums} {squares} {from} {to} ready h k = record {
-  positive = h;
-  count = omega arith;
-  len = length-slice from to samples k;
-  small = slice-small from to samples k (λ j g. ready .cells .small j (omega arith));
-  sum = omega (arith, ready .cells .sums from (omega arith), ready .cells .sums to (omega arith), sumOf-slice raised from to samples (omega arith));
-  square = omega (arith, ready .cells .squares from (omega arith), ready .cells .squares to (omega arith), sumOf-slice (λ (x : ℤ). raised x * raised x) from to samples (omega arith));
-}
+pub between : {samples : List ℤ} {sums squares : List ℕ} {from to : ℕ} → SegmentIn samples sums squares from to → Between samples sums squares from to
+between {samples} {sums} {squares} {from} {to} s =
+    let r = s .ready in
+    record {
+      positive = s .some;
+      count = omega (arith, s .within, r .room .short);
+      len = length-slice from to samples (s .within);
+      small = slice-small from to samples (s .within) (r .fit);
+      sum = omega (arith, r .sums-are from (omega arith), r .sums-are to (omega arith), sumOf-slice raised from to samples (omega arith));
+      square = omega (arith, r .squares-are from (omega arith), r .squares-are to (omega arith), sumOf-slice (λ (x : ℤ). raised x * raised x) from to samples (omega arith));
+    }
 
 module _ {samples : List ℤ} {sums squares : List ℕ} {from to : ℕ} (b : Between samples sums squares from to) where
   -- The samples of the segment.
@@ -45,10 +46,10 @@ module _ {samples : List ℤ} {sums squares : List ℕ} {from to : ℕ} (b : Bet
   sum-low = omega (arith, raisedSum-low segment (b .small))
 
   -- The sum of the samples is that of the raised ones, less 32,768 for each.
-  pub total-is : pos (getD sums to 0 - getD sums from 0) -ℤ pos (32768 * (to - from)) ≡ total segment
+  pub total-is : pos (getD sums to 0 - getD sums from 0) -ℤ pos (offset * (to - from)) ≡ total segment
   total-is =
       let s = pos (getD sums to 0 - getD sums from 0) in
-      let r = pos (32768 * (to - from)) in
+      let r = pos (offset * (to - from)) in
       ext (s -ℤ r) (total segment) (omega (arith, PN-minus s r, total-PN segment (b .small)))
 
   -- The sum of the samples is within the range that `level` takes.
@@ -58,13 +59,13 @@ module _ {samples : List ℤ} {sums squares : List ℕ} {from to : ℕ} (b : Bet
       let l = raisedSum-low segment (b .small) in
       natAbs-le-PN (total segment) (omega arith) (omega arith)
 
-  -- The level is of 16 bits.
-  pub level-fits : mag (levelOf segment) < 32768
+  -- The level is a sample.
+  pub level-fits : Sample16 (levelOf segment)
   level-fits = level-small segment (omega arith) (b .small)
 
   -- The terms of the loss, with v the raised level.
   pub record Terms (v : ℕ) : Type 0 where
-    pub level-square : v * v ≤ 4294836225
+    pub level-square : v * v ≤ maxSquare
     pub level-term : (to - from) * (v * v) ≤ 2198956147200
     pub cross-term : v * (getD sums to 0 - getD sums from 0) ≤ 2198956147200
     pub square-term : getD squares to 0 - getD squares from 0 ≤ 2198956147200
@@ -75,7 +76,7 @@ module _ {samples : List ℤ} {sums squares : List ℕ} {from to : ℕ} (b : Bet
   unfolding segmentLoss
   terms v e =
       let h : v ≤ 65535 = omega (arith, raised-low (levelOf segment) level-fits) in
-      let k : v * v ≤ 4294836225 = mul-le-mul h h in
+      let k : v * v ≤ maxSquare = mul-le-mul h h in
       let s : raisedSum segment ≡ getD sums to 0 - getD sums from 0 = omega arith in
       let q : raisedSquares segment ≡ getD squares to 0 - getD squares from 0 = omega arith in
       record {

@@ -1,13 +1,21 @@
 // One segment of a signal: its level, its loss, and the prefix sums from which both are had in constant time.
 // Contracts speak of the samples as whole numbers. Inside, a sample is raised by 32,768, so that sums are natural numbers.
 ghost use mathlib.Core.Path.{_≡_};
-ghost use Prim.Native.Nat.{_+_, _<_, _≤_};
+ghost use Prim.Native.Nat.{_<_, _≤_};
 ghost use lib.IntN.{pos, natAbs};
-ghost use lib.Signed.{_≤ℤ_, mag};
-ghost use lib.ListN.{length};
+ghost use lib.Signed.{_≤ℤ_};
 ghost use lib.Seq.{slice};
 ghost use Rattle.segment.specs.Segment.{level, levelOf, segmentLoss};
-ghost use Rattle.segment.specs.Prefix.{raised, Prefixes, Summed};
+ghost use Rattle.segment.specs.Inner.{raised, SumsFrom, Summed, SegmentIn};
+
+// The most samples that a signal has.
+pub const MAX_SAMPLES: usize = 512;
+
+// The cells of a buffer of prefix sums: one for each number of samples, 0 among them.
+pub const CELLS: usize = MAX_SAMPLES + 1;
+
+// What a sample is raised by.
+const OFFSET: i32 = 32768;
 
 // The whole number nearest sum / len; of two equally near, the lower.
 pub fn level(sum: i32, len: i32) -> i32
@@ -26,18 +34,17 @@ pub fn level(sum: i32, len: i32) -> i32
     q
 }
 
-// A sample or a level, raised by 32,768.
-fn raise(x: i32) -> u32
-    requires { ⌜ mag x < 32768 ⌝ }
-    ensures { λ r. ⌜ (r ≡ raised x) × (r < 65536) ⌝ }
+// A raised sample.
+pub fn raise(sample: i16) -> u32
+    ensures { λ r. ⌜ (r ≡ raised sample) × (r < 65536) ⌝ }
 {
-    (x + 32768) as u32
+    (sample as i32 + OFFSET) as u32
 }
 
 // For each j the sum of the first j raised samples, and the sum of their squares.
 pub fn prefix_sums(samples: &[i16], sums: &mut [u32], squares: &mut [u64])
-    requires { ⌜ (length (now samples) ≤ 512) × ((length (now sums) ≡ 513) × (length (now squares) ≡ 513)) ⌝ }
-    ensures { λ r. ⌜ Prefixes (length (now (samples .entry)) + 1) (now (samples .entry)) (now (sums .exit)) (now (squares .exit)) ⌝ }
+    requires { ⌜ SumsFrom (now samples) (now sums) (now squares) ⌝ }
+    ensures { λ r. ⌜ Summed (now (samples .entry)) (now (sums .exit)) (now (squares .exit)) ⌝ }
 {
     let mut i = 0;
     let mut sum: u32 = 0;
@@ -45,7 +52,7 @@ pub fn prefix_sums(samples: &[i16], sums: &mut [u32], squares: &mut [u64])
     sums[0] = 0;
     squares[0] = 0;
     while i < samples.len() {
-        let v = raise(samples[i] as i32);
+        let v = raise(samples[i]);
         let wide = v as u64;
         sum += v;
         square += wide * wide;
@@ -55,30 +62,22 @@ pub fn prefix_sums(samples: &[i16], sums: &mut [u32], squares: &mut [u64])
     }
 }
 
-// The level of the segment of samples from + 1 to to, at 32 bits. The samples and the squares are lent for the contract alone.
-fn wide_level(samples: &[i16], sums: &[u32], squares: &[u64], from: usize, to: usize) -> i32
-    requires { ⌜ Summed (now samples) (now sums) (now squares) × ((from < to) × (to ≤ length (now samples))) ⌝ }
+// The level of the segment of samples from + 1 to to. The samples and the squares are lent for the contract alone.
+pub fn segment_level(samples: &[i16], sums: &[u32], squares: &[u64], from: usize, to: usize) -> i16
+    requires { ⌜ SegmentIn (now samples) (now sums) (now squares) from to ⌝ }
     ensures { λ r. ⌜ r ≡ levelOf (slice from to (now (samples .entry))) ⌝ }
 {
     let n = (to - from) as i32;
     let sum = (sums[to] - sums[from]) as i32;
-    level(sum - 32768 * n, n)
+    level(sum - OFFSET * n, n) as i16
 }
 
-// The same as a sample.
-pub fn segment_level(samples: &[i16], sums: &[u32], squares: &[u64], from: usize, to: usize) -> i16
-    requires { ⌜ Summed (now samples) (now sums) (now squares) × ((from < to) × (to ≤ length (now samples))) ⌝ }
-    ensures { λ r. ⌜ r ≡ levelOf (slice from to (now (samples .entry))) ⌝ }
-{
-    wide_level(samples, sums, squares, from, to) as i16
-}
-
-// The loss of the segment of samples from + 1 to to, at its level. The samples are lent for the contract alone.
+// The loss of the same segment, at its level.
 pub fn segment_loss(samples: &[i16], sums: &[u32], squares: &[u64], from: usize, to: usize) -> u64
-    requires { ⌜ Summed (now samples) (now sums) (now squares) × ((from < to) × (to ≤ length (now samples))) ⌝ }
+    requires { ⌜ SegmentIn (now samples) (now sums) (now squares) from to ⌝ }
     ensures { λ r. ⌜ r ≡ segmentLoss (slice from to (now (samples .entry))) ⌝ }
 {
-    let v = raise(wide_level(samples, sums, squares, from, to)) as u64;
+    let v = raise(segment_level(samples, sums, squares, from, to)) as u64;
     let n = (to - from) as u64;
     let sum = (sums[to] - sums[from]) as u64;
     let square = squares[to] - squares[from];

@@ -20,9 +20,9 @@ use Rattle.select.specs.Penalty.{validPenalty, cost}
 use Rattle.select.specs.Select.{selectedFrom, selected, selectOf, selection}
 use Rattle.select.specs.declared.SelectResult.{SelectResult}
 use Rattle.select.proofs.Walks.{Selectable, accepted, selected-within, select-done}
-use Rattle.least.specs.Segmentation.{least, startsOf, levelsOf, lossOf}
-use Rattle.least.specs.Table.{TraceFrom, LevelsFrom}
-use Rattle.least.proofs.Chosen.{starts-count, levels-count, starts-taken, chosen-loss}
+use Rattle.least.specs.Segmentation.{least, pieceStart, pieceLevel, startsOf, levelsOf, lossOf}
+use Rattle.least.specs.Inner.{TraceFrom, LevelsFrom}
+use Rattle.least.proofs.Chosen.{perPiece-count, perPiece-taken, chosen-loss}
 use Rattle.signal.specs.Signal.{modelOf, signalPath, segmentsAt, segmentation}
 use Rattle.signal.specs.Steps.{SegmentFrom, SegmentedAt}
 use Rattle.signal.proofs.Paths.{Sized, path-sized, path-some}
@@ -146,7 +146,7 @@ module _ (xs : List ℤ) (count : ℕ) (s l : List ℕ) (n p q : ℕ) (w starts 
             one = omega (arith, h .size);
             enough = omega (arith, h .size, h .few, ok .enough);
             len-levels = omega (arith, h .size, h .few, ok .levels-fit);
-            starts-are = starts-taken xs (found .size) (length xs) starts' (drop (found .size) starts) (omega (arith, h .size)) e;
+            starts-are = perPiece-taken pieceStart xs (found .size) (length xs) starts' (drop (found .size) starts) (omega (arith, h .size)) e;
           }
 
       pub segmented : (levels' : List ℤ) → levels' ≡ levelsOf (segmentation xs (found .size)) ++ drop (found .size) levels → SegmentedAt xs count p q starts levels starts' levels' found
@@ -155,8 +155,8 @@ module _ (xs : List ℤ) (count : ℕ) (s l : List ℕ) (n p q : ℕ) (w starts 
           let size : k ≡ segmentsAt (signalPath xs count) p q = ap (λ (r : SelectResult). r .size) (h .is) in
           let one : suc (k - 1) ≡ k = omega (arith, h .size) in
           let last : k - 1 ≡ h .last = omega (arith, h .size) in
-          let starts-long : length (startsOf (segmentation xs k)) ≡ k = starts-count xs (k - 1) (length xs) ∙ one in
-          let levels-long : length (levelsOf (segmentation xs k)) ≡ k = levels-count xs (k - 1) (length xs) ∙ one in
+          let starts-long : length (startsOf (segmentation xs k)) ≡ k = perPiece-count pieceStart xs (k - 1) (length xs) ∙ one in
+          let levels-long : length (levelsOf (segmentation xs k)) ≡ k = perPiece-count pieceLevel xs (k - 1) (length xs) ∙ one in
           let loss : found .loss ≡ lossOf (segmentation xs k) = h .loss ∙ ap (λ (m : ℕ). least xs m (length xs)) (sym last) ∙ sym (chosen-loss xs (k - 1) (length xs)) in
           let fs : starts' ≡ overwritten (startsOf (segmentation xs k)) starts = e ∙ ap (λ (m : ℕ). startsOf (segmentation xs k) ++ drop m starts) (sym starts-long) in
           let fl : levels' ≡ overwritten (levelsOf (segmentation xs k)) levels = f ∙ ap (λ (m : ℕ). levelsOf (segmentation xs k) ++ drop m levels) (sym levels-long) in

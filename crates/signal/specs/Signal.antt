@@ -11,14 +11,6 @@ use Rattle.path.specs.Refusal.{lossBelow}
 use Rattle.select.specs.Select.{selectOf}
 use Rattle.least.specs.Segmentation.{Piece, least, chosen}
 
--- the most samples
-abbrev pub maxSamples : ℕ
-maxSamples = 512
-
--- the largest limit of segments
-abbrev pub maxLimit : ℕ
-maxLimit = 32
-
 -- the largest size that occurs: sizes above the limit or above the number of samples do not
 abbrev pub sizeCount : List ℤ → ℕ → ℕ
 sizeCount samples limit = min limit (length samples)

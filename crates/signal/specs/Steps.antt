@@ -12,13 +12,15 @@ use Rattle.path.specs.Buffer.{overwrittenTo, overwritten}
 use Rattle.select.specs.Penalty.{validPenalty}
 use Rattle.select.specs.Select.{selectOf}
 use Rattle.select.specs.declared.SelectResult.{SelectResult}
-use Rattle.least.specs.Segmentation.{least, startsOf, levelsOf, lossOf}
-use Rattle.least.specs.Table.{scratchLen, StartsAre}
-use Rattle.signal.specs.Signal.{maxSamples, maxLimit, sizeCount, signalPath, segmentsAt, segmentation}
+use Rattle.segment.specs.Segment.{maxSamples}
+use Rattle.least.specs.Segmentation.{maxSegments, least, startsOf, levelsOf, lossOf}
+use Rattle.least.specs.Scratch.{scratchLen}
+use Rattle.least.specs.Inner.{StartsAre}
+use Rattle.signal.specs.Signal.{sizeCount, signalPath, segmentsAt, segmentation}
 
 -- the least losses of 1 to count segments are at hand, and the path's buffers have room for as many entries
 pub record LossesFrom (samples : List ℤ) (losses : List ℕ) (count sizesRoom lossesRoom : ℕ) : Type 0 where
-  pub few : count ≤ maxLimit
+  pub few : count ≤ maxSegments
   pub listed : count ≤ length losses
   pub sizes-fit : count ≤ sizesRoom
   pub losses-fit : count ≤ lossesRoom
@@ -30,7 +32,7 @@ pub record Solvable (samples : List ℤ) (limit : ℕ) (sizes losses scratch : L
   pub some : 0 < length samples
   pub short : length samples ≤ maxSamples
   pub one : 0 < limit
-  pub few : limit ≤ maxLimit
+  pub few : limit ≤ maxSegments
   pub sizes-fit : sizeCount samples limit ≤ length sizes
   pub losses-fit : sizeCount samples limit ≤ length losses
   pub scratch-fits : scratchLen ≤ length scratch
@@ -52,7 +54,7 @@ pub record Solved (samples : List ℤ) (limit : ℕ) (s₀ l₀ s l scratch : Li
 pub record SegmentFrom (samples : List ℤ) (count : ℕ) (sizes losses : List ℕ) (entries p q : ℕ) (scratch starts : List ℕ) (levels : List ℤ) : Type 0 where
   pub short : length samples ≤ maxSamples
   pub one : 0 < count
-  pub few : count ≤ maxLimit
+  pub few : count ≤ maxSegments
   pub enough : count ≤ length samples
   pub path : pathOf sizes losses entries ≡ signalPath samples count
   pub valid : validPath sizes losses entries ≡ true

@@ -3,7 +3,6 @@
 
 ghost use mathlib.Core.Path.{_≡_};
 ghost use mathlib.Core.Bool.{_&&_};
-ghost use Prim.Native.Nat.{min};
 ghost use lib.Dec.{leb};
 ghost use lib.ListN.{length, replicate};
 ghost use Rattle.path.specs.Refusal.{refusalOf};
@@ -14,6 +13,7 @@ ghost use Rattle.signal.specs.Steps.{LossesFrom, Solvable, Solved, Segme
 use least::SCRATCH_LEN;
 use least::fill_table;
 use least::put_levels;
+use least::smaller;
 use least::trace_back;
 use select::SelectResult;
 
@@ -32,13 +32,6 @@ pub struct SplitResult {
     pub segments: usize,
     pub loss: u64,
     pub entries: usize,
-}
-
-// The smaller of two numbers.
-fn smaller(a: usize, b: usize) -> usize
-    ensures { λ r. ⌜ r ≡ min a b ⌝ }
-{
-    if a < b { a } else { b }
 }
 
 // The refusal of a signal of n samples or of a limit: the first of 1, 2 and 3, or 0.

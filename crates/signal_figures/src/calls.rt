@@ -17,7 +17,7 @@ const MARK_LEVEL: i16 = -32669;
 
 // A sample raised by 32,768.
 fn raise(sample: i16) -> u64 {
-    (sample as i32 + 32768) as u64
+    segment::raise(sample) as u64
 }
 
 // The sample that a number is when it is raised.

@@ -3,7 +3,7 @@
 use mathlib.Core.Path.{_≡_, refl, _∙_, ap, subst}
 use mathlib.Core.Logic.{inl, inr, ⊎-elim}
 use mathlib.Core.List.{List}
-use Prim.Native.Nat.{ℕ, suc, _+_, _*_, _-_, _≤_, _<_}
+use Prim.Native.Nat.{ℕ, suc, _+_, _-_, _≤_, _<_}
 use native.Mathlib.Nat.{eq-or-lt-of-le}
 use native.Mathlib.Numerals.{add-one}
 use native.Mathlib.Omega.{arith}
@@ -12,10 +12,12 @@ use lib.ListN.{length, getD, set, length-set}
 use lib.Seq.{slice, getD-set-same, getD-set-other}
 use Rattle.layout.specs.Item.{item, setItem}
 use Rattle.layout.proofs.Laws.{length-setItem, byte-kept, item-same, item-other}
-use Rattle.segment.specs.Segment.{segmentLoss}
-use Rattle.least.specs.Segmentation.{lossWithLast, lastStart, least}
-use Rattle.least.specs.Table.{scratchLen, startPlace, rowOf, Picked, NextFrom, NextRow}
-use Rattle.least.proofs.LeastLosses.{ready-small, lastStart-earliest, lastStart-same, least-low}
+use Rattle.segment.specs.Segment.{maxSamples, segmentLoss}
+use Rattle.segment.specs.Inner.{cellCount}
+use Rattle.least.specs.Segmentation.{maxSegments, lossWithLast, lastStart, least}
+use Rattle.least.specs.Scratch.{scratchLen}
+use Rattle.least.specs.Inner.{startPlace, rowOf, Picked, NextFrom, NextRow}
+use Rattle.least.proofs.LeastLosses.{lastStart-earliest, lastStart-same, least-low}
 use Rattle.least.proofs.next_row.Statement.{statement}
 use Rattle.least.proofs.next_row.Tie as tie
 
@@ -23,12 +25,12 @@ use Rattle.least.proofs.next_row.Tie as tie
 record Rows (xs : List ℤ) (m j : ℕ) (row old scratch : List ℕ) : Type 0 where
   low : m < j
   high : j ≤ length xs
-  len-row : length row ≡ 513
+  len-row : length row ≡ cellCount
   len-scratch : length scratch ≡ length old
   done : (t : ℕ) → j < t → t ≤ length xs → getD row t 0 ≡ least xs (suc m) t
   todo : (t : ℕ) → m < t → t ≤ j → getD row t 0 ≡ least xs m t
   starts : (t : ℕ) → j < t → t ≤ length xs → item 2 scratch (startPlace m t) ≡ lastStart xs (least xs m) (suc m) t
-  kept : (i : ℕ) → i < 1024 * m → getD scratch i 0 ≡ getD old i 0
+  kept : (i : ℕ) → i < startPlace m 1 → getD scratch i 0 ≡ getD old i 0
 
 -- What a search finds is the start and the loss of the definition.
 picked-is : {xs : List ℤ} {row : List ℕ} {m j loss start : ℕ} → Picked xs row (m + 1) j loss start → m + 1 < j → ((t : ℕ) → m < t → t < j → getD row t 0 ≡ least xs m t)
@@ -59,7 +61,7 @@ rows-start p = record {
 }
 
 -- A turn makes the cell j one of the new row, and the start at j.
-rows-step : {xs : List ℤ} {m j loss start : ℕ} {row old scratch : List ℕ} → Rows xs m j row old scratch → m < 31 → length xs ≤ 512 → scratchLen ≤ length old → m + 1 < j
+rows-step : {xs : List ℤ} {m j loss start : ℕ} {row old scratch : List ℕ} → Rows xs m j row old scratch → m + 1 < maxSegments → length xs ≤ maxSamples → scratchLen ≤ length old → m + 1 < j
     → Picked xs row (m + 1) j loss start → Rows xs m (j - 1) (set row j loss) old (setItem 2 scratch (startPlace m j) start)
 rows-step {xs} {m} {j} {loss} {start} {row} {old} {scratch} r hm hn room h p =
     let e = picked-is p h (λ t l u. r .todo t l (omega arith)) in
@@ -113,7 +115,7 @@ pick-start-requires c κs =
       some = omega arith;
       within = omega arith;
       len-row = r .len-row;
-      row-low = λ i l u. omega (arith, r .todo i (omega arith) (omega arith), least-low (s .args .samples .now) (ready-small (s .pre .ready)) (s .args .m) i (omega arith) (omega arith));
+      row-low = λ i l u. omega (arith, r .todo i (omega arith) (omega arith), least-low (s .args .samples .now) (s .pre .ready .fit) (s .args .m) i (omega arith) (omega arith));
     }
 
 mul-row : tie.Need-mul-row Inv-loop μ-loop

@@ -9,12 +9,12 @@ use native.Mathlib.Omega.{arith}
 use lib.IntN.{ℤ}
 use lib.ListN.{length, getD}
 use lib.Seq.{slice}
-use Rattle.segment.specs.Segment.{segmentLoss}
-use Rattle.least.specs.Earliest.{Earliest}
+use Rattle.segment.specs.Segment.{maxSamples, segmentLoss}
+use Rattle.segment.specs.Inner.{maxSquare}
 use Rattle.least.specs.Segmentation.{lossWithLast, lastStart}
-use Rattle.least.specs.Table.{rowOf, PickFrom, Picked}
-use Rattle.least.proofs.Earliest.{earliest-one, earliest-start, down-take, down-keep, down-all}
-use Rattle.least.proofs.LeastLosses.{ready-small, slice-low, loss-grows, lastStart-earliest}
+use Rattle.least.specs.Inner.{rowOf, PickFrom, Picked}
+use Rattle.least.proofs.Earliest.{Earliest, earliest-one, earliest-start, down-take, down-keep, down-all}
+use Rattle.least.proofs.LeastLosses.{slice-low, loss-grows, lastStart-earliest}
 use Rattle.least.proofs.pick_start.Statement.{statement}
 use Rattle.least.proofs.pick_start.Tie as tie
 
@@ -26,9 +26,9 @@ record Scan (xs : List ℤ) (row : List ℕ) (low to i start loss : ℕ) : Type 
   earliest : Earliest (lossWithLast xs (rowOf row) to) i to start
 
 -- A loss before and a segment's own loss together are small.
-sum-low : {xs : List ℤ} {sums squares row : List ℕ} {low to v : ℕ} → PickFrom xs sums squares row low to → (i : ℕ) → low ≤ i → i < to → v ≡ segmentLoss (slice i to xs) → getD row i 0 + v ≤ 4294836225 * 512
+sum-low : {xs : List ℤ} {sums squares row : List ℕ} {low to v : ℕ} → PickFrom xs sums squares row low to → (i : ℕ) → low ≤ i → i < to → v ≡ segmentLoss (slice i to xs) → getD row i 0 + v ≤ maxSquare * maxSamples
 sum-low {xs} {to = to} p i l u e =
-    omega (arith, p .row-low i l u, slice-low xs (ready-small (p .ready)) i to u (p .within), p .ready .count)
+    omega (arith, p .row-low i l u, slice-low xs (p .ready .fit) i to u (p .within), p .ready .room .short)
 
 module _ {xs : List ℤ} {row : List ℕ} {low to : ℕ} where
   -- The last place alone.
@@ -109,7 +109,7 @@ shared-slice-read-if1 : tie.Need-shared-slice-read-if1 Inv-loop μ-loop
 shared-slice-read-if1 c = omega arith
 
 segment-loss-requires : tie.Need-segment-loss-requires Inv-loop μ-loop
-segment-loss-requires c κs = (c .before .before .before .before .pre .ready, (omega arith, omega arith))
+segment-loss-requires c κs = record { ready = c .before .before .before .before .pre .ready; some = omega arith; within = omega arith }
 
 add-if1 : tie.Need-add-if1 Inv-loop μ-loop
 add-if1 c =
@@ -129,7 +129,7 @@ shared-slice-read-least : tie.Need-shared-slice-read-least Inv-loop μ-loop
 shared-slice-read-least c = omega arith
 
 segment-loss-requires-2 : tie.Need-segment-loss-requires-2 Inv-loop μ-loop
-segment-loss-requires-2 c κs = (c .before .before .before .before .before .before .before .pre .ready, (omega arith, omega arith))
+segment-loss-requires-2 c κs = record { ready = c .before .before .before .before .before .before .before .pre .ready; some = omega arith; within = omega arith }
 
 add-least : tie.Need-add-least Inv-loop μ-loop
 add-least c =
@@ -143,7 +143,7 @@ sub-i-2 : tie.Need-sub-i-2 Inv-loop μ-loop
 sub-i-2 c = omega arith
 
 segment-loss-requires-3 : tie.Need-segment-loss-requires-3 Inv-loop μ-loop
-segment-loss-requires-3 c κs = (c .before .before .before .before .before .before .before .before .before .before .pre .ready, (omega arith, omega arith))
+segment-loss-requires-3 c κs = record { ready = c .before .before .before .before .before .before .before .before .before .before .pre .ready; some = omega arith; within = omega arith }
 
 returns-2 : tie.Need-returns-2 Inv-loop μ-loop
 returns-2 c = scan-stop (c .before .before .before .loop .inv) (omega arith) (c .before .segment-loss3 .ensures) (omega arith) (omega arith)

@@ -2,30 +2,28 @@
 -- bounded, balance.
 use native.Mathlib.Omega.{arith}
 use borrow.Author.Needs.{needs}
-use mir.Syntax.{w32}
+use mir.Syntax.{w16}
 use mir.Facts.{toZ-ofZ}
-use Rattle.segment.proofs.Segments.{Between, between, sum-low, level-fits, Terms, terms}
+use Rattle.segment.proofs.Segments.{Between, between, sum-low, Terms, terms}
 use Rattle.segment.proofs.segment_loss.Statement.{statement}
 use Rattle.segment.proofs.segment_loss.Tie as tie
 
 -- The segment, as the prefix sums have it.
 part : (c : tie.Start) → Between (c .args .samples .now) (c .args .sums .now) (c .args .squares .now) (c .args .from) (c .args .to)
-part c = between (c .pre .0) (c .pre .1 .0) (c .pre .1 .1)
+part c = between (c .pre)
 
 -- The terms of the loss balance.
 balanced : (c : tie.After-shared-slice-known6) → Terms (part (c .before .before .before .before .before .before .before .before)) (c .before .before .before .before .raise .result)
 balanced c =
     let r = c .before .before .before .before in
-    let l = r .before .wide-level in
-    terms (part (r .before .before .before .before)) (r .raise .result) (rw (toZ-ofZ {w = w32} {z = l .result} (record { sfits = l .ok }), l .ensures) at (r .raise .ensures .0))
+    let l = r .before .segment-level in
+    terms (part (r .before .before .before .before)) (r .raise .result) (rw (toZ-ofZ {w = w16} {z = l .result} (record { sfits = l .ok }), l .ensures) at (r .raise .ensures .0))
 
-wide-level-requires : tie.Need-wide-level-requires
-wide-level-requires c κs = search needs
+segment-level-requires : tie.Need-segment-level-requires
+segment-level-requires c κs = search needs
 
 raise-requires : tie.Need-raise-requires
-raise-requires c κs =
-    let l = c .wide-level in
-    rw (toZ-ofZ {w = w32} {z = l .result} (record { sfits = l .ok }), l .ensures) (level-fits (part (c .before .before .before)))
+raise-requires c κs = search needs
 
 cast-v : tie.Need-cast-v
 cast-v c = search needs
@@ -91,7 +89,7 @@ pub segment-loss-spec : {M : Type 1} → statement M
 segment-loss-spec =
     tie.close
     (tie.spec
-    wide-level-requires
+    segment-level-requires
     raise-requires
     cast-v
     sub-n

@@ -1,0 +1,82 @@
+-- The least loss of exactly k + 1 segments is the least of at most k + 1, as equation (3) has it. A segmentation with fewer segments
+-- than samples has a segment of two or more samples. Cut in two at the same level it gives one segment more and the same loss.
+use mathlib.Core.Path.{_≡_, refl, _∙_, ap, subst}
+use Prim.Native.Nat.{ℕ, zero, suc, _+_, _-_, _≤_, _<_}
+use native.Mathlib.Omega.{arith}
+use mathlib.Core.List.{List, [], _∷_, _++_}
+use lib.IntN.{ℤ}
+use lib.ListN.{length, length-append}
+use lib.Seq.{append-snoc}
+use Rattle.segment.specs.Segment.{lossAt}
+use Rattle.least.specs.Segmentation.{Piece, covered, lossOf, NonEmpty, Segmentation, least, chosen}
+use Rattle.least.specs.Claims.{LeastUpTo, LossesNeverRise}
+use Rattle.least.proofs.Optimality.{least-of-all, least-reached}
+
+-- One segment more over the same samples, with the same loss.
+record Finer (g finer : List Piece) : Type 0 where
+  covers : covered finer ≡ covered g
+  count : length finer ≡ suc (length g)
+  non-empty : NonEmpty finer
+  loss : lossOf finer ≡ lossOf g
+
+-- A stretch at a level.
+abbrev piece : List ℤ → ℤ → Piece
+piece samples level = record { samples = samples; level = level }
+
+-- A last piece of two or more samples is cut behind its first sample.
+last-cut : (l x y : ℤ) (xs : List ℤ) (g : List Piece) → NonEmpty g → Finer (piece (x ∷ y ∷ xs) l ∷ g) (piece (y ∷ xs) l ∷ piece (x ∷ []) l ∷ g)
+unfolding covered lossOf NonEmpty lossAt
+last-cut l x y xs g f = record {
+  covers = append-snoc (covered g) x (y ∷ xs);
+  count = refl;
+  non-empty = (omega arith, (omega arith, f));
+  loss = omega arith;
+}
+
+-- A cut further forward leaves the last piece as it is.
+front-cut : (p : Piece) (g finer : List Piece) → 0 < length (p .samples) → Finer g finer → Finer (p ∷ g) (p ∷ finer)
+unfolding covered lossOf NonEmpty
+front-cut p g finer h f = record {
+  covers = ap (λ (xs : List ℤ). xs ++ p .samples) (f .covers);
+  count = ap suc (f .count);
+  non-empty = (h, f .non-empty);
+  loss = omega (arith, f .loss);
+}
+
+-- Fewer pieces than samples can be cut once more.
+pieces-cut : (g : List Piece) → NonEmpty g → length g < length (covered g) → (finer : List Piece) × Finer g finer
+unfolding covered NonEmpty
+pieces-cut [] f h = absurd (omega arith)
+pieces-cut (p ∷ g) f h = by-samples (p .samples) (p .level) (f .0) (omega (arith, length-append (covered g) (p .samples))) (pieces-cut g (f .1))
+  where
+    by-samples : (xs : List ℤ) (l : ℤ) → 0 < length xs → suc (length g) < length (covered g) + length xs → (length g < length (covered g) → (finer : List Piece) × Finer g finer)
+        → (finer : List Piece) × Finer (piece xs l ∷ g) finer
+    by-samples [] l some h ih = absurd (omega arith)
+    by-samples (x ∷ []) l some h ih = let c = ih (omega arith) in (piece (x ∷ []) l ∷ c .0, front-cut (piece (x ∷ []) l) g (c .0) some (c .1))
+    by-samples (x ∷ y ∷ xs) l some h ih = (piece (y ∷ xs) l ∷ piece (x ∷ []) l ∷ g, last-cut l x y xs g (f .1))
+
+-- A segmentation with fewer segments than samples can be cut once more, and keeps its loss.
+one-segment-more : (xs : List ℤ) (j : ℕ) (g : List Piece) → Segmentation xs j g → j < length xs → (finer : List Piece) × (Segmentation xs (suc j) finer × (lossOf finer ≡ lossOf g))
+one-segment-more xs j g s h =
+    let c = pieces-cut g (s .non-empty) (omega (arith, s .count, ap length (s .covers))) in
+    let f = c .1 in
+    (c .0, (record { covers = f .covers ∙ s .covers; count = f .count ∙ ap suc (s .count); non-empty = f .non-empty }, f .loss))
+
+-- No segmentation into k + 1 - d segments has a loss below the least of k + 1.
+fewer-no-less : (d : ℕ) (xs : List ℤ) (k j : ℕ) (g : List Piece) → suc k ≤ length xs → j + d ≡ suc k → Segmentation xs j g → least xs k (length xs) ≤ lossOf g
+fewer-no-less zero xs k j g h e s =
+    let same : j ≡ suc k = omega arith in
+    least-of-all xs k g (subst (λ (j : ℕ). Segmentation xs j g) same s)
+fewer-no-less (suc d) xs k j g h e s =
+    let c = one-segment-more xs j g s (omega arith) in
+    omega (arith, fewer-no-less d xs k (suc j) (c .0) h (omega arith) (c .1 .0), c .1 .1)
+
+-- No segmentation into at most k + 1 segments has a loss below the least.
+pub least-up-to : LeastUpTo
+least-up-to xs k j g h few s = fewer-no-less (suc k - j) xs k j g h (omega arith) s
+
+-- One segment more never has a larger least loss.
+pub losses-never-rise : LossesNeverRise
+losses-never-rise xs k h =
+    let c = least-reached xs k (omega arith) in
+    omega (arith, least-up-to xs (suc k) (suc k) (chosen xs k (length xs)) h (omega arith) (c .0), c .1)

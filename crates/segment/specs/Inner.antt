@@ -1,0 +1,57 @@
+-- The contracts of inner functions: prefix sums of a signal. They are no part of what a reader must believe.
+-- Each sample is raised by 32,768, so that all sums are natural numbers. Cell j of a buffer is the sum over the first j samples, so a
+-- segment's sum is the difference of two cells.
+use mathlib.Core.Path.{_≡_}
+use Prim.Native.Nat.{ℕ, _+_, _*_, _≤_, _<_}
+use mathlib.Core.List.{List, [], _∷_}
+use lib.IntN.{ℤ, pos, natAbs, _+ℤ_}
+use lib.ListN.{length, take, getD}
+use Rattle.segment.specs.Segment.{maxSamples, Samples16}
+
+-- What a sample is raised by.
+abbrev pub offset : ℕ
+offset = 32768
+
+-- The largest square of a raised sample, 65,535².
+abbrev pub maxSquare : ℕ
+maxSquare = 4294836225
+
+-- The cells of a buffer of prefix sums: one for each number of samples, 0 among them.
+abbrev pub cellCount : ℕ
+cellCount = 513
+
+-- A raised sample.
+unfoldable pub raised : ℤ → ℕ
+raised x = natAbs (x +ℤ pos offset)
+
+-- The sum of f over the samples.
+unfoldable pub sumOf : (ℤ → ℕ) → List ℤ → ℕ
+sumOf f [] = 0
+sumOf f (x ∷ xs) = f x + sumOf f xs
+
+-- The sum of the raised samples.
+abbrev pub raisedSum : List ℤ → ℕ
+raisedSum xs = sumOf raised xs
+
+-- The sum of the squares of the raised samples.
+abbrev pub raisedSquares : List ℤ → ℕ
+raisedSquares xs = sumOf (λ (x : ℤ). raised x * raised x) xs
+
+-- What `prefix_sums` asks for.
+pub record SumsFrom (samples : List ℤ) (sums squares : List ℕ) : Type 0 where
+  pub short : length samples ≤ maxSamples
+  pub len-sums : length sums ≡ cellCount
+  pub len-squares : length squares ≡ cellCount
+
+-- What it leaves: cell j has the sum, and the sum of squares, of the first j raised samples.
+pub record Summed (samples : List ℤ) (sums squares : List ℕ) : Type 0 where
+  pub room : SumsFrom samples sums squares
+  pub fit : Samples16 samples
+  pub sums-are : (j : ℕ) → j < length samples + 1 → getD sums j 0 ≡ raisedSum (take j samples)
+  pub squares-are : (j : ℕ) → j < length samples + 1 → getD squares j 0 ≡ raisedSquares (take j samples)
+
+-- What a segment's level and loss are had from: prefix sums, and a segment of samples from + 1 to to that is not empty.
+pub record SegmentIn (samples : List ℤ) (sums squares : List ℕ) (from to : ℕ) : Type 0 where
+  pub ready : Summed samples sums squares
+  pub some : from < to
+  pub within : to ≤ length samples
