@@ -13,18 +13,19 @@ use lib.ListN.{length, drop}
 use Rattle.path.specs.Model.{Model, modelAt, pathOf, sizesOf, lossesOf}
 use Rattle.path.specs.Refusal.{ordered, validPath}
 use Rattle.path.specs.Buffer.{overwritten}
-use Rattle.path.proofs.Paths.{length-path, length-sizes, length-losses, places-agree}
+use Rattle.path.proofs.Paths.{length-path, length-values, places-agree}
 use Rattle.path.proofs.Order.{valid-parts, valid-whole}
 use Rattle.path.proofs.Buffers.{path-front}
 use Rattle.select.specs.Penalty.{validPenalty, cost}
-use Rattle.select.specs.Select.{selectedFrom, selected, selectOf, selection}
+use Rattle.select.specs.Select.{selectedFrom, selected, selectOf, entryAt}
 use Rattle.select.specs.declared.SelectResult.{SelectResult}
 use Rattle.select.proofs.Walks.{Selectable, accepted, selected-within, select-done}
 use Rattle.least.specs.Segmentation.{least, pieceStart, pieceLevel, startsOf, levelsOf, lossOf}
 use Rattle.least.specs.Inner.{TraceFrom, LevelsFrom}
 use Rattle.least.proofs.Chosen.{perPiece-count, perPiece-taken, chosen-loss}
 use Rattle.signal.specs.Signal.{modelOf, signalPath, segmentsAt, segmentation}
-use Rattle.signal.specs.Steps.{SegmentFrom, SegmentedAt}
+use Rattle.signal.specs.SignalPath.{PathBuffers}
+use Rattle.signal.specs.Inner.{SegmentFrom, SegmentedAt}
 use Rattle.signal.proofs.Paths.{Sized, path-sized, path-some}
 
 walks-agree : (s l s' l' : List ℕ) (n p q : ℕ) → pathOf s l n ≡ pathOf s' l' n → (m i : ℕ) → i + m < n → selectedFrom s l p q i m ≡ selectedFrom s' l' p q i m
@@ -38,17 +39,17 @@ walks-agree s l s' l' n p q e (suc m) i h =
     ∙ ap (λ (x : Model). cond (ltb (cost p q x) (cost p q (modelAt s' l' i))) (selectedFrom s l p q (suc i) m) i) next
     ∙ ap (λ (x : ℕ). cond (ltb (cost p q (modelAt s' l' (suc i))) (cost p q (modelAt s' l' i))) x i) later
 
--- two valid lists that hold the same path select the same
+-- Two valid lists that hold the same path select the same.
 select-agrees : (s l s' l' : List ℕ) (n p q : ℕ) → pathOf s l n ≡ pathOf s' l' n → Selectable s l n p q → Selectable s' l' n p q → selectOf s l n p q ≡ selectOf s' l' n p q
 select-agrees s l s' l' n p q e a b =
     let i = selected s l n p q in
     let w = selected-within s l p q (n - 1) 0 in
     let same : i ≡ selected s' l' n p q = walks-agree s l s' l' n p q e (n - 1) 0 (omega (arith, a .some)) in
     let place = places-agree s' l' s l n e i (omega (arith, a .some)) in
-    let answer : selection s l i ≡ selection s' l' i = ap (λ (m : Model). record { refusal = 0; index = i; size = m .size; loss = m .loss }) place in
+    let answer : entryAt s l i ≡ entryAt s' l' i = ap (λ (m : Model). record { refusal = 0; index = i; size = m .size; loss = m .loss }) place in
     sym (select-done s l n p q (accepted s l n p q a) i refl) ∙ answer ∙ select-done s' l' n p q (accepted s' l' n p q b) i same
 
--- the path by itself, as two lists
+-- The path by itself, as two lists.
 pub path-alone : (st : List Model) → pathOf (sizesOf st) (lossesOf st) (length st) ≡ st
 path-alone st =
     subst (λ (l : List ℕ). pathOf (sizesOf st) l (length st) ≡ st) (append-nil (lossesOf st))
@@ -60,7 +61,7 @@ sized-at xs k s l zero h i p = absurd (not-suc-le-zero p)
 sized-at xs k s l (suc n) h i p =
     ⊎-elim (λ (q : i ≡ n). rw q (h .0)) (λ (q : i < n). sized-at xs k s l n (h .1) i q) (eq-or-lt-of-le {n = i} {m = n} (omega arith))
 
--- what is selected from the path of a signal in any buffers
+-- What is selected from the path of a signal in any buffers.
 pub record Entry (xs : List ℤ) (count p q : ℕ) (found : SelectResult) : Type 0 where
   pub is : found ≡ selectOf (sizesOf (signalPath xs count)) (lossesOf (signalPath xs count)) (length (signalPath xs count)) p q
   pub last : ℕ
@@ -68,7 +69,7 @@ pub record Entry (xs : List ℤ) (count p q : ℕ) (found : SelectResult) : Type
   pub size : found .size ≡ suc last
   pub loss : found .loss ≡ least xs last (length xs)
 
--- buffers that hold the path of sizes 1 to count, and a penalty in its range
+-- Buffers hold the path of sizes 1 to count, and a penalty is in its range.
 pub record PathIn (xs : List ℤ) (count : ℕ) (s l : List ℕ) (n p q : ℕ) : Type 0 where
   pub one : 0 < count
   pub is : pathOf s l n ≡ signalPath xs count
@@ -95,8 +96,8 @@ module _ (xs : List ℤ) (count : ℕ) (s l : List ℕ) (n p q : ℕ) (ok : Path
       let v = valid-parts s l n (ok .valid) in
       record {
         valid = valid-whole (sizesOf path) (lossesOf path) n record {
-          in-sizes = omega (arith, length-sizes path, entries);
-          in-losses = omega (arith, length-losses path, entries);
+          in-sizes = omega (arith, length-values (λ (m : Model). m .size) path, entries);
+          in-losses = omega (arith, length-values (λ (m : Model). m .loss) path, entries);
           few = v .few;
           order = ap (λ (k : ℕ). ordered (pathOf (sizesOf path) (lossesOf path) k)) entries ∙ ap ordered (path-alone path ∙ sym (ok .is)) ∙ v .order;
         };
@@ -109,7 +110,7 @@ module _ (xs : List ℤ) (count : ℕ) (s l : List ℕ) (n p q : ℕ) (ok : Path
       let same : pathOf s l n ≡ pathOf (sizesOf path) (lossesOf path) n = ok .is ∙ sym (path-alone path) ∙ ap (pathOf (sizesOf path) (lossesOf path)) (sym entries) in
       let i = selected s l n p q in
       let within = selected-within s l p q (n - 1) 0 in
-      let answer : found ≡ selection s l i = e ∙ sym (select-done s l n p q (accepted s l n p q in-buffers) i refl) in
+      let answer : found ≡ entryAt s l i = e ∙ sym (select-done s l n p q (accepted s l n p q in-buffers) i refl) in
       let m = sized-at xs count s l n (rw (ok .is) (path-sized xs count)) i (omega (arith, some)) in
       record {
         is = e ∙ select-agrees s l (sizesOf path) (lossesOf path) n p q same in-buffers alone ∙ ap (λ (k : ℕ). selectOf (sizesOf path) (lossesOf path) k p q) entries;
@@ -119,14 +120,14 @@ module _ (xs : List ℤ) (count : ℕ) (s l : List ℕ) (n p q : ℕ) (ok : Path
         loss = ap (λ (r : SelectResult). r .loss) answer ∙ ap (λ (x : Model). x .loss) (m .2);
       }
 
--- what the segmentation at a penalty is made from
-module _ (xs : List ℤ) (count : ℕ) (s l : List ℕ) (n p q : ℕ) (w starts : List ℕ) (levels : List ℤ) (ok : SegmentFrom xs count s l n p q w starts levels) where
-  pub entry-from : (found : SelectResult) → found ≡ selectOf s l n p q → Entry xs count p q found
+-- What the segmentation at a penalty is made from.
+module _ (xs : List ℤ) (count : ℕ) (b : PathBuffers) (n p q : ℕ) (starts : List ℕ) (levels : List ℤ) (ok : SegmentFrom xs count b n p q starts levels) where
+  pub entry-from : (found : SelectResult) → found ≡ selectOf (b .sizes) (b .losses) n p q → Entry xs count p q found
   entry-from found e =
-      entry xs count s l n p q (record { one = ok .one; is = ok .path; valid = ok .valid; penalty = ok .penalty }) found e
+      entry xs count (b .sizes) (b .losses) n p q (record { one = ok .one; is = ok .path; valid = ok .valid; penalty = ok .penalty }) found e
 
   module _ (found : SelectResult) (h : Entry xs count p q found) where
-    pub may-trace : TraceFrom xs w starts (found .size)
+    pub may-trace : TraceFrom xs (b .scratch) starts (found .size)
     may-trace =
         record {
           short = ok .short;

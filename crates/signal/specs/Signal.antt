@@ -1,4 +1,4 @@
--- A signal, 01's record, as a source of models: the least loss of each number of segments, the path of these models, and the
+-- A signal, the trade's record, as a source of models: the least loss of each number of segments, the path of these models, and the
 -- segmentation at a penalty.
 use mathlib.Core.Bool.{cond}
 use mathlib.Core.List.{List, [], _∷_}
@@ -11,20 +11,20 @@ use Rattle.path.specs.Refusal.{lossBelow}
 use Rattle.select.specs.Select.{selectOf}
 use Rattle.least.specs.Segmentation.{Piece, least, chosen}
 
--- the largest size that occurs: sizes above the limit or above the number of samples do not
+-- The largest size that occurs. Sizes above the limit or above the number of samples do not occur.
 abbrev pub sizeCount : List ℤ → ℕ → ℕ
 sizeCount samples limit = min limit (length samples)
 
--- the model of k + 1 segments: their least loss, equation (3)
+-- The model of k + 1 segments has their least loss.
 abbrev pub modelOf : List ℤ → ℕ → Model
 modelOf samples k = model (suc k) (least samples k (length samples))
 
--- the models of sizes 1 to k, the last one first
+-- The models of sizes 1 to k, the last one first.
 unfoldable pub modelsUpTo : List ℤ → ℕ → List Model
 modelsUpTo samples zero = []
 modelsUpTo samples (suc k) = modelOf samples k ∷ modelsUpTo samples k
 
--- their path: sizes are appended in turn, and one whose loss is not below that of the last one appended is skipped
+-- The path of these models. Sizes are appended in turn, and one whose loss is not below that of the last entry is skipped.
 unfoldable pub signalPath : List ℤ → ℕ → List Model
 signalPath samples zero = []
 signalPath samples (suc k) =
@@ -32,10 +32,10 @@ signalPath samples (suc k) =
     (extended (signalPath samples k) (modelOf samples k))
     (signalPath samples k)
 
--- the number of segments at the penalty p / q: the size that a path gives there
+-- The number of segments at the penalty p / q is the size that a path gives there.
 abbrev pub segmentsAt : List Model → ℕ → ℕ → ℕ
 segmentsAt path p q = selectOf (sizesOf path) (lossesOf path) (length path) p q .size
 
--- the segmentation into so many segments: of the best ones the one whose last segment starts the earliest, then the one before
+-- The segmentation into so many segments: of the best ones that whose last segment starts the earliest, then the one before.
 abbrev pub segmentation : List ℤ → ℕ → List Piece
 segmentation samples segments = chosen samples (segments - 1) (length samples)

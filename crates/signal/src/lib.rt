@@ -1,31 +1,35 @@
-// The record calls: the path of a signal, and its segmentation at a penalty. Least losses come from the table of the crate
-// `least`, which stands in the lent scratch until the call ends; the scratch is then all zero.
+// The calls on signals: the path of a signal, and its segmentation at a penalty. Least losses come from the table of the crate
+// `least`, which stands in the lent scratch until the call ends. The scratch is then all zero.
 
 ghost use mathlib.Core.Path.{_≡_};
-ghost use mathlib.Core.Bool.{_&&_};
-ghost use lib.Dec.{leb};
+ghost use mathlib.Core.List.{[], _∷_};
+ghost use Prim.Native.Nat.{_≤_};
 ghost use lib.ListN.{length, replicate};
 ghost use Rattle.path.specs.Refusal.{refusalOf};
-ghost use Rattle.path.specs.Buffer.{Held};
+ghost use Rattle.path.specs.Inner.{Held};
+ghost use Rattle.segment.specs.Segment.{Samples16};
 ghost use Rattle.signal.specs.Signal.{signalPath};
-ghost use Rattle.signal.specs.Outcome.{inputChecks, pathFits, pathChecks, splitChecks, signalPathOutcome, signalPathOf, splitOutcome, splitOf};
-ghost use Rattle.signal.specs.Steps.{LossesFrom, Solvable, Solved, SegmentFrom, SegmentedAt};
+ghost use Rattle.signal.specs.SignalPath.{inputChecks, roomCheck, signalPathChecks, pathBuffers, signalPathOutcome, signalPathOf};
+ghost use Rattle.signal.specs.Split.{splitChecks, splitBuffers, splitOutcome, splitOf};
+ghost use Rattle.signal.specs.Inner.{LossesFrom, Solvable, Solved, SegmentFrom, SegmentedAt};
+use least::MAX_SEGMENTS;
 use least::SCRATCH_LEN;
 use least::fill_table;
 use least::put_levels;
 use least::smaller;
 use least::trace_back;
+use segment::MAX_SAMPLES;
 use select::SelectResult;
 
-// The answer of a path call: the refusal, 0 where it is accepted, and the number of entries.
+// The answer of a path call: the refusal, which is 0 where the call is accepted, and the number of entries.
 #[repr(C)]
 pub struct SignalPathResult {
     pub refusal: u64,
     pub entries: usize,
 }
 
-// The answer of a split: the refusal, 0 where it is accepted, then the number of segments, their loss, and the number of
-// entries of the path.
+// The answer of a split: the refusal, which is 0 where the call is accepted and else has zeros after it, then the number of
+// segments, their loss, and the number of entries of the path.
 #[repr(C)]
 pub struct SplitResult {
     pub refusal: u64,
@@ -35,35 +39,36 @@ pub struct SplitResult {
 }
 
 // The refusal of a signal of n samples or of a limit: the first of 1, 2 and 3, or 0.
-fn input_refusal(n: usize, max_segments: u64) -> u64
+fn signal_refusal(n: usize, max_segments: u64) -> u64
     ensures { λ r. ⌜ r ≡ refusalOf (inputChecks n «max_segments») ⌝ }
 {
     if n < 1 {
         return 1;
     }
-    if 512 < n {
+    if MAX_SAMPLES < n {
         return 2;
     }
     if max_segments < 1 {
         return 3;
     }
-    if 32 < max_segments {
+    if (MAX_SEGMENTS as u64) < max_segments {
         return 3;
     }
     0
 }
 
-// Whether buffers of these lengths have room for a path of so many entries and for the table.
-fn path_fits(count: usize, sizes_room: usize, losses_room: usize, scratch_room: usize) -> bool
-    ensures { λ r. ⌜ r ≡ pathFits count (record { sizes = «sizes_room»; losses = «losses_room»; scratch = «scratch_room» }) ⌝ }
+// The refusal of the buffers that every call on a signal is lent, for so many sizes: 9 or 0.
+fn room_refusal(count: usize, sizes_room: usize, losses_room: usize, scratch_room: usize) -> u64
+    ensures { λ r. ⌜ r ≡ refusalOf
+        (roomCheck count («sizes_room» ∷ «losses_room» ∷ []) «scratch_room» ∷ []) ⌝ }
 {
-    if sizes_room < count {
-        return false;
+    if !path::has_room(count, sizes_room, losses_room) {
+        return 9;
     }
-    if losses_room < count {
-        return false;
+    if scratch_room < SCRATCH_LEN {
+        return 9;
     }
-    SCRATCH_LEN <= scratch_room
+    0
 }
 
 // The refusal of a path call: the first of 1, 2, 3 and 9, or 0.
@@ -74,27 +79,15 @@ fn path_refusal(
     losses_room: usize,
     scratch_room: usize,
 ) -> u64
-    ensures { λ r. ⌜ r ≡ refusalOf (pathChecks n «max_segments» (record { sizes = «sizes_room»; losses = «losses_room»; scratch = «scratch_room» })) ⌝ }
+    ensures { λ r. ⌜ r ≡ refusalOf
+        (signalPathChecks n «max_segments» («sizes_room» ∷ «losses_room» ∷ []) «scratch_room») ⌝ }
 {
-    let refusal = input_refusal(n, max_segments);
+    let refusal = signal_refusal(n, max_segments);
     if refusal != 0 {
         return refusal;
     }
     let count = smaller(max_segments as usize, n);
-    if !path_fits(count, sizes_room, losses_room, scratch_room) {
-        return 9;
-    }
-    0
-}
-
-// Whether buffers of these lengths have room for so many starts and levels.
-fn segments_fit(count: usize, starts_room: usize, levels_room: usize) -> bool
-    ensures { λ r. ⌜ r ≡ leb count «starts_room» && leb count «levels_room» ⌝ }
-{
-    if starts_room < count {
-        return false;
-    }
-    count <= levels_room
+    room_refusal(count, sizes_room, losses_room, scratch_room)
 }
 
 // The refusal of a split: the first of 1, 2, 3, 4 and 9, or 0.
@@ -109,9 +102,13 @@ fn split_refusal(
     losses_room: usize,
     scratch_room: usize,
 ) -> u64
-    ensures { λ r. ⌜ r ≡ refusalOf (splitChecks n «max_segments» p q «starts_room» «levels_room» (record { sizes = «sizes_room»; losses = «losses_room»; scratch = «scratch_room» })) ⌝ }
+    ensures { λ r. ⌜ r ≡ refusalOf
+        (splitChecks
+        n «max_segments» p q
+        («starts_room» ∷ «levels_room» ∷ «sizes_room» ∷ «losses_room» ∷ [])
+        «scratch_room») ⌝ }
 {
-    let refusal = input_refusal(n, max_segments);
+    let refusal = signal_refusal(n, max_segments);
     if refusal != 0 {
         return refusal;
     }
@@ -119,13 +116,10 @@ fn split_refusal(
         return 4;
     }
     let count = smaller(max_segments as usize, n);
-    if !segments_fit(count, starts_room, levels_room) {
+    if !path::has_room(count, starts_room, levels_room) {
         return 9;
     }
-    if !path_fits(count, sizes_room, losses_room, scratch_room) {
-        return 9;
-    }
-    0
+    room_refusal(count, sizes_room, losses_room, scratch_room)
 }
 
 // Appends sizes 1 to count in turn. One whose loss is not below that of the last one appended is refused by the append, and
@@ -137,8 +131,14 @@ fn fill_path(
     path_sizes: &mut [u64],
     path_losses: &mut [u64],
 ) -> usize
-    requires { ⌜ LossesFrom (now samples) (now losses) count (length (now «path_sizes»)) (length (now «path_losses»)) ⌝ }
-    ensures { λ r. ⌜ Held (signalPath (now (samples .entry)) count) (now («path_sizes» .entry)) (now («path_losses» .entry)) (now («path_sizes» .exit)) (now («path_losses» .exit)) r count ⌝ }
+    requires { ⌜ LossesFrom
+        (now samples) (now losses) count
+        (length (now «path_sizes»)) (length (now «path_losses»)) ⌝ }
+    ensures { λ r. ⌜ Held
+        (signalPath (now (samples .entry)) count)
+        (now («path_sizes» .entry)) (now («path_losses» .entry))
+        (now («path_sizes» .exit)) (now («path_losses» .exit))
+        r count ⌝ }
 {
     let mut entries = 0;
     let mut i = 0;
@@ -162,10 +162,16 @@ pub fn make_path(
     path_losses: &mut [u64],
     scratch: &mut [u8],
 ) -> usize
-    requires { ⌜ Solvable (now samples) «max_segments» (now «path_sizes») (now «path_losses») (now scratch) ⌝ }
-    ensures { λ r. ⌜ Solved (now (samples .entry)) «max_segments» (now («path_sizes» .entry)) (now («path_losses» .entry)) (now («path_sizes» .exit)) (now («path_losses» .exit)) (now (scratch .exit)) r ⌝ }
+    requires { ⌜ Solvable
+        (now samples) «max_segments»
+        (pathBuffers (now «path_sizes») (now «path_losses») (now scratch)) ⌝ }
+    ensures { λ r. ⌜ Solved
+        (now (samples .entry)) «max_segments»
+        (pathBuffers (now («path_sizes» .entry)) (now («path_losses» .entry)) (now (scratch .entry)))
+        (pathBuffers (now («path_sizes» .exit)) (now («path_losses» .exit)) (now (scratch .exit)))
+        r ⌝ }
 {
-    let mut losses = [0u64; 32];
+    let mut losses = [0u64; MAX_SEGMENTS];
     let count = fill_table(samples, max_segments, &mut losses, scratch);
     let entries = fill_path(samples, &losses, count, path_sizes, path_losses);
     path::clear(&mut path_sizes[entries..count]);
@@ -187,8 +193,15 @@ pub fn segment_at(
     starts: &mut [u16],
     levels: &mut [i16],
 ) -> SelectResult
-    requires { ⌜ SegmentFrom (now samples) count (now «path_sizes») (now «path_losses») entries p q (now scratch) (now starts) (now levels) ⌝ }
-    ensures { λ r. ⌜ SegmentedAt (now (samples .entry)) count p q (now (starts .entry)) (now (levels .entry)) (now (starts .exit)) (now (levels .exit)) r ⌝ }
+    requires { ⌜ SegmentFrom
+        (now samples) count
+        (pathBuffers (now «path_sizes») (now «path_losses») (now scratch))
+        entries p q (now starts) (now levels) ⌝ }
+    ensures { λ r. ⌜ SegmentedAt
+        (now (samples .entry)) count p q
+        (now (starts .entry)) (now (levels .entry))
+        (now (starts .exit)) (now (levels .exit))
+        r ⌝ }
 {
     let found = select::select(path_sizes, path_losses, entries, p, q);
     let segments = found.size as usize;
@@ -208,7 +221,8 @@ fn clear_bytes(scratch: &mut [u8])
     }
 }
 
-// The path of a signal: the sizes up to the limit that can be the cheapest at some penalty, with their losses.
+// The path of a signal: the sizes up to the limit that can be the cheapest at some penalty, with their losses. What is claimed of
+// accepted calls speaks of samples of 16 bits, which the second clause says that they are.
 pub fn signal_path(
     samples: &[i16],
     max_segments: u64,
@@ -216,7 +230,11 @@ pub fn signal_path(
     path_losses: &mut [u64],
     scratch: &mut [u8],
 ) -> SignalPathResult
-    ensures { λ r. ⌜ signalPathOutcome r (now («path_sizes» .exit)) (now («path_losses» .exit)) (now (scratch .exit)) ≡ signalPathOf (now (samples .entry)) «max_segments» (now («path_sizes» .entry)) (now («path_losses» .entry)) (now (scratch .entry)) ⌝ }
+    ensures outcome { λ r. ⌜ signalPathOutcome r
+        (pathBuffers (now («path_sizes» .exit)) (now («path_losses» .exit)) (now (scratch .exit)))
+        ≡ signalPathOf (now (samples .entry)) «max_segments»
+        (pathBuffers (now («path_sizes» .entry)) (now («path_losses» .entry)) (now (scratch .entry))) ⌝ }
+    ensures fit { λ r. ⌜ (r .refusal ≡ 0 → Samples16 (now (samples .entry))) ⌝ }
 {
     let refusal = path_refusal(
         samples.len(),
@@ -245,7 +263,8 @@ pub fn signal_path(
     }
 }
 
-// The segmentation of a signal at the penalty p / q, and the signal's path.
+// The segmentation of a signal at the penalty p / q, and the signal's path. What is claimed of accepted calls speaks of samples of
+// 16 bits, which the second clause says that they are.
 pub fn split(
     samples: &[i16],
     max_segments: u64,
@@ -257,7 +276,15 @@ pub fn split(
     path_losses: &mut [u64],
     scratch: &mut [u8],
 ) -> SplitResult
-    ensures { λ r. ⌜ splitOutcome r (now (starts .exit)) (now (levels .exit)) (now («path_sizes» .exit)) (now («path_losses» .exit)) (now (scratch .exit)) ≡ splitOf (now (samples .entry)) «max_segments» p q (now (starts .entry)) (now (levels .entry)) (now («path_sizes» .entry)) (now («path_losses» .entry)) (now (scratch .entry)) ⌝ }
+    ensures outcome { λ r. ⌜ splitOutcome r
+        (splitBuffers
+        (now (starts .exit)) (now (levels .exit))
+        (now («path_sizes» .exit)) (now («path_losses» .exit)) (now (scratch .exit)))
+        ≡ splitOf (now (samples .entry)) «max_segments» p q
+        (splitBuffers
+        (now (starts .entry)) (now (levels .entry))
+        (now («path_sizes» .entry)) (now («path_losses» .entry)) (now (scratch .entry))) ⌝ }
+    ensures fit { λ r. ⌜ (r .refusal ≡ 0 → Samples16 (now (samples .entry))) ⌝ }
 {
     let refusal = split_refusal(
         samples.len(),

@@ -3,7 +3,7 @@ use mathlib.Core.Path.{_≡_, subst}
 use mathlib.Core.Logic.{⊎-elim}
 use Prim.Native.Nat.{ℕ, _-_, _≤_}
 use native.Mathlib.Omega.{arith}
-use Rattle.path.specs.Buffer.{Held}
+use Rattle.path.specs.Inner.{Held}
 use Rattle.path.specs.Append.{pathOutcome}
 use Rattle.signal.specs.Signal.{signalPath}
 use Rattle.signal.proofs.Paths.{held-start, turned}
@@ -48,10 +48,10 @@ loop-again c =
     (omega arith, ⊎-elim (λ w. rw (w .1) (t .0 (w .0 .taken))) (λ w. rw (w .1) (t .1 (w .0 .left))) (c .if1 .came))
 
 same-length : tie.Need-same-length Inv-loop μ-loop
-same-length c = c .before .loop .inv .1 .sizes-long
+same-length c = c .before .loop .inv .1 .sizes .long
 
 same-length-2 : tie.Need-same-length-2 Inv-loop μ-loop
-same-length-2 c = c .before .loop .inv .1 .losses-long
+same-length-2 c = c .before .loop .inv .1 .losses .long
 
 returns : tie.Need-returns Inv-loop μ-loop
 returns c =

@@ -4,7 +4,9 @@ use Prim.Native.Nat.{ℕ, _-_}
 use native.Mathlib.Omega.{arith}
 use lib.ListN.{replicate}
 use borrow.Rule.Slice.PartMut.{putMid, mid-len}
+use Rattle.signal.specs.SignalPath.{pathBuffers}
 use Rattle.signal.proofs.Paths.{solved}
+use borrow.Author.Needs.{needs}
 use borrow.Author.Needs.{needs}
 use Rattle.signal.proofs.make_path.Statement.{statement}
 use Rattle.signal.proofs.make_path.Tie as tie
@@ -80,11 +82,11 @@ returns c =
     let n = t .result in
     let s = f .last .1 .1 .1 .0 in
     let l = f .last .1 .1 .1 .1 .0 in
-    solved (a .samples .now) (a .max-segments) n (t .ensures .0) (a .path-sizes .now) (a .path-losses .now) s l _ _ (t .last .1 .1 .1 .0) k (f .ensures)
+    solved (a .samples .now) (a .max-segments) n (t .ensures .0) (pathBuffers (a .path-sizes .now) (a .path-losses .now) (a .scratch .now)) s l _ _ (t .last .1 .1 .1 .0) k (f .ensures)
     (omega (arith, t .ensures .0, pre .sizes-fit)) (omega (arith, t .ensures .0, pre .losses-fit)) (omega (arith, t .ensures .0, pre .few))
-    (record { long = search needs; starts-are = t .ensures .1 .starts-are })
-    (ap (putMid k (n - k) s) (c .before .before .before .before .before .before .clear .ensures ∙ ap (λ (m : ℕ). replicate m 0) (mid-len k n s (omega (arith, t .ensures .0, pre .sizes-fit, f .ensures .sizes-long)))))
-    (ap (putMid k (n - k) l) (c .before .before .clear2 .ensures ∙ ap (λ (m : ℕ). replicate m 0) (mid-len k n l (omega (arith, t .ensures .0, pre .losses-fit, f .ensures .losses-long)))))
+    (record { long = search needs; starts-are = t .ensures .1 .starts-are }) (t .ensures .1 .fit)
+    (ap (putMid k (n - k) s) (c .before .before .before .before .before .before .clear .ensures ∙ ap (λ (m : ℕ). replicate m 0) (mid-len k n s (omega (arith, t .ensures .0, pre .sizes-fit, f .ensures .sizes .long)))))
+    (ap (putMid k (n - k) l) (c .before .before .clear2 .ensures ∙ ap (λ (m : ℕ). replicate m 0) (mid-len k n l (omega (arith, t .ensures .0, pre .losses-fit, f .ensures .losses .long)))))
 
 pub make-path-spec : {M : Type 1} → statement M
 make-path-spec =
