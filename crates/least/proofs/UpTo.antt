@@ -75,7 +75,7 @@ fewer-no-less (suc d) xs k j g h e s =
 pub least-up-to : LeastUpTo
 least-up-to xs k j g h few s = fewer-no-less (suc k - j) xs k j g h (omega arith) s
 
--- One segment more never has a larger least loss.
+-- The least loss never rises with the number of segments.
 pub losses-never-rise : LossesNeverRise
 losses-never-rise xs k h =
     let c = least-reached xs k (omega arith) in

@@ -28,8 +28,8 @@ pub record StartsAre (xs : List ℤ) (m : ℕ) (scratch : List ℕ) : Type 0 whe
 abbrev pub rowOf : List ℕ → ℕ → ℕ
 rowOf row i = getD row i 0
 
--- What a search for the last segment's start asks for: the prefix sums, a start between low and to, and a row of losses that are
--- small enough to add to.
+-- What a search for the last segment's start asks for: the prefix sums, at least one place from low on before the segment's end, and a
+-- row of losses that are small enough to add to.
 pub record PickFrom (xs : List ℤ) (sums squares row : List ℕ) (low to : ℕ) : Type 0 where
   pub ready : Summed xs sums squares
   pub some : low < to

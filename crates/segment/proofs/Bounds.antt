@@ -10,7 +10,7 @@ use lib.Signed.{mag}
 use lib.ListN.{length, getD}
 use lib.Seq.{slice, length-slice, getD-take, getD-drop}
 use Rattle.segment.specs.Segment.{Sample16, Samples16, square, total, lossAt, levelOf, segmentLoss}
-use Rattle.segment.specs.Inner.{offset, maxSquare, raised, sumOf, raisedSum, raisedSquares}
+use Rattle.segment.specs.Inner.{offset, maxRaised, maxSquare, raised, raisedSquare, sumOf, raisedSum, raisedSquares}
 use Rattle.segment.proofs.Integers.{P, N, PN-add, PN-minus, PN-le, le-PN, not-negative, natAbs-PN, mag-PN}
 use Rattle.segment.proofs.Nearest.{level-near}
 use Rattle.segment.proofs.Optimal.{level-least}
@@ -42,8 +42,8 @@ raised-PN x h =
     let e = PN-add x (pos offset) in
     omega (arith, not-negative z (omega arith), natAbs-PN z)
 
--- A raised sample is below 65,536.
-pub raised-low : (x : ℤ) → Sample16 x → raised x ≤ 65535
+-- A raised sample is small.
+pub raised-low : (x : ℤ) → Sample16 x → raised x ≤ maxRaised
 raised-low x h = let m = sample-PN x h in omega (arith, raised-PN x h)
 
 -- The samples of a slice are of 16 bits.
@@ -60,12 +60,12 @@ total-PN (x ∷ xs) small =
     omega (arith, raised-PN x (small 0 (omega arith)), total-PN xs (λ i h. small (suc i) (omega arith)), PN-add x (total xs))
 
 -- The sum of the raised samples is bounded, and that of their squares.
-pub raisedSum-low : (xs : List ℤ) → Samples16 xs → raisedSum xs ≤ 65535 * length xs
-raisedSum-low xs small = sumOf-low raised 65535 xs (λ i h. raised-low (getD xs i (pos 0)) (small i h))
+pub raisedSum-low : (xs : List ℤ) → Samples16 xs → raisedSum xs ≤ maxRaised * length xs
+raisedSum-low xs small = sumOf-low raised maxRaised xs (λ i h. raised-low (getD xs i (pos 0)) (small i h))
 
 pub raisedSquares-low : (xs : List ℤ) → Samples16 xs → raisedSquares xs ≤ maxSquare * length xs
 raisedSquares-low xs small =
-    sumOf-low (λ (x : ℤ). raised x * raised x) maxSquare xs
+    sumOf-low raisedSquare maxSquare xs
     (λ i h. let l = raised-low (getD xs i (pos 0)) (small i h) in mul-le-mul l l)
 
 -- The square of u - v.

@@ -9,7 +9,7 @@ use lib.IntN.{ℤ, pos, natAbs, _-ℤ_}
 use lib.ListN.{length, getD}
 use lib.Seq.{slice, length-slice}
 use Rattle.segment.specs.Segment.{maxSamples, Sample16, Samples16, total, levelOf, segmentLoss}
-use Rattle.segment.specs.Inner.{offset, maxSquare, raised, raisedSum, raisedSquares, SegmentIn}
+use Rattle.segment.specs.Inner.{offset, maxRaised, maxSquare, raised, raisedSquare, raisedSum, raisedSquares, SegmentIn}
 use Rattle.segment.proofs.Integers.{PN-minus, ext, natAbs-le-PN}
 use Rattle.segment.proofs.Bounds.{slice-small, raised-PN, raised-low, total-PN, raisedSum-low, raisedSquares-low, loss-raised, level-small}
 use Rattle.segment.proofs.Sums.{sumOf-slice}
@@ -33,7 +33,7 @@ between {samples} {sums} {squares} {from} {to} s =
       len = length-slice from to samples (s .within);
       small = slice-small from to samples (s .within) (r .fit);
       sum = omega (arith, r .sums-are from (omega arith), r .sums-are to (omega arith), sumOf-slice raised from to samples (omega arith));
-      square = omega (arith, r .squares-are from (omega arith), r .squares-are to (omega arith), sumOf-slice (λ (x : ℤ). raised x * raised x) from to samples (omega arith));
+      square = omega (arith, r .squares-are from (omega arith), r .squares-are to (omega arith), sumOf-slice raisedSquare from to samples (omega arith));
     }
 
 module _ {samples : List ℤ} {sums squares : List ℕ} {from to : ℕ} (b : Between samples sums squares from to) where
@@ -42,7 +42,7 @@ module _ {samples : List ℤ} {sums squares : List ℕ} {from to : ℕ} (b : Bet
   segment = slice from to samples
 
   -- The sum of the raised samples is small.
-  pub sum-low : getD sums to 0 - getD sums from 0 ≤ 33553920
+  pub sum-low : getD sums to 0 - getD sums from 0 ≤ maxRaised * maxSamples
   sum-low = omega (arith, raisedSum-low segment (b .small))
 
   -- The sum of the samples is that of the raised ones, less 32,768 for each.
@@ -53,7 +53,7 @@ module _ {samples : List ℤ} {sums squares : List ℕ} {from to : ℕ} (b : Bet
       ext (s -ℤ r) (total segment) (omega (arith, PN-minus s r, total-PN segment (b .small)))
 
   -- The sum of the samples is within the range that `level` takes.
-  pub total-low : natAbs (total segment) ≤ 16777216
+  pub total-low : natAbs (total segment) ≤ offset * maxSamples
   total-low =
       let t = total-PN segment (b .small) in
       let l = raisedSum-low segment (b .small) in
@@ -66,16 +66,16 @@ module _ {samples : List ℤ} {sums squares : List ℕ} {from to : ℕ} (b : Bet
   -- The terms of the loss, with v the raised level.
   pub record Terms (v : ℕ) : Type 0 where
     pub level-square : v * v ≤ maxSquare
-    pub level-term : (to - from) * (v * v) ≤ 2198956147200
-    pub cross-term : v * (getD sums to 0 - getD sums from 0) ≤ 2198956147200
-    pub square-term : getD squares to 0 - getD squares from 0 ≤ 2198956147200
+    pub level-term : (to - from) * (v * v) ≤ maxSquare * maxSamples
+    pub cross-term : v * (getD sums to 0 - getD sums from 0) ≤ maxSquare * maxSamples
+    pub square-term : getD squares to 0 - getD squares from 0 ≤ maxSquare * maxSamples
     pub balance : segmentLoss segment + 2 * (v * (getD sums to 0 - getD sums from 0)) ≡ (getD squares to 0 - getD squares from 0) + (to - from) * (v * v)
 
   -- They are bounded, and balance.
   pub terms : (v : ℕ) → v ≡ raised (levelOf segment) → Terms v
   unfolding segmentLoss
   terms v e =
-      let h : v ≤ 65535 = omega (arith, raised-low (levelOf segment) level-fits) in
+      let h : v ≤ maxRaised = omega (arith, raised-low (levelOf segment) level-fits) in
       let k : v * v ≤ maxSquare = mul-le-mul h h in
       let s : raisedSum segment ≡ getD sums to 0 - getD sums from 0 = omega arith in
       let q : raisedSquares segment ≡ getD squares to 0 - getD squares from 0 = omega arith in

@@ -12,9 +12,13 @@ use Rattle.segment.specs.Segment.{maxSamples, Samples16}
 abbrev pub offset : ℕ
 offset = 32768
 
--- The largest square of a raised sample, 65,535².
+-- The largest raised sample.
+abbrev pub maxRaised : ℕ
+maxRaised = 65535
+
+-- Its square, 4,294,836,225.
 abbrev pub maxSquare : ℕ
-maxSquare = 4294836225
+maxSquare = maxRaised * maxRaised
 
 -- The cells of a buffer of prefix sums: one for each number of samples, 0 among them.
 abbrev pub cellCount : ℕ
@@ -23,6 +27,10 @@ cellCount = 513
 -- A raised sample.
 unfoldable pub raised : ℤ → ℕ
 raised x = natAbs (x +ℤ pos offset)
+
+-- The square of a raised sample.
+abbrev pub raisedSquare : ℤ → ℕ
+raisedSquare x = raised x * raised x
 
 -- The sum of f over the samples.
 unfoldable pub sumOf : (ℤ → ℕ) → List ℤ → ℕ
@@ -35,7 +43,7 @@ raisedSum xs = sumOf raised xs
 
 -- The sum of the squares of the raised samples.
 abbrev pub raisedSquares : List ℤ → ℕ
-raisedSquares xs = sumOf (λ (x : ℤ). raised x * raised x) xs
+raisedSquares xs = sumOf raisedSquare xs
 
 -- What `prefix_sums` asks for.
 pub record SumsFrom (samples : List ℤ) (sums squares : List ℕ) : Type 0 where

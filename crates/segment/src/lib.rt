@@ -1,12 +1,12 @@
 // One segment of a signal: its level, its loss, and the prefix sums from which both are had in constant time.
 // Contracts speak of the samples as whole numbers. Inside, a sample is raised by 32,768, so that sums are natural numbers.
 ghost use mathlib.Core.Path.{_≡_};
-ghost use Prim.Native.Nat.{_<_, _≤_};
+ghost use Prim.Native.Nat.{_*_, _≤_};
 ghost use lib.IntN.{pos, natAbs};
 ghost use lib.Signed.{_≤ℤ_};
 ghost use lib.Seq.{slice};
-ghost use Rattle.segment.specs.Segment.{level, levelOf, segmentLoss};
-ghost use Rattle.segment.specs.Inner.{raised, SumsFrom, Summed, SegmentIn};
+ghost use Rattle.segment.specs.Segment.{maxSamples, level, levelOf, segmentLoss};
+ghost use Rattle.segment.specs.Inner.{offset, maxRaised, raised, SumsFrom, Summed, SegmentIn};
 
 // The most samples that a signal has.
 pub const MAX_SAMPLES: usize = 512;
@@ -18,8 +18,8 @@ pub const CELLS: usize = MAX_SAMPLES + 1;
 const OFFSET: i32 = 32768;
 
 // The whole number nearest sum / len; of two equally near, the lower.
-pub fn level(sum: i32, len: i32) -> i32
-    requires { ⌜ (natAbs sum ≤ 16777216) × ((pos 1 ≤ℤ len) × (len ≤ℤ pos 65536)) ⌝ }
+fn level(sum: i32, len: i32) -> i32
+    requires { ⌜ (natAbs sum ≤ offset * maxSamples) × ((pos 1 ≤ℤ len) × (len ≤ℤ pos maxSamples)) ⌝ }
     ensures { λ r. ⌜ r ≡ level sum (natAbs len) ⌝ }
 {
     let q = sum / len;
@@ -36,7 +36,7 @@ pub fn level(sum: i32, len: i32) -> i32
 
 // A raised sample.
 pub fn raise(sample: i16) -> u32
-    ensures { λ r. ⌜ (r ≡ raised sample) × (r < 65536) ⌝ }
+    ensures { λ r. ⌜ (r ≡ raised sample) × (r ≤ maxRaised) ⌝ }
 {
     (sample as i32 + OFFSET) as u32
 }
