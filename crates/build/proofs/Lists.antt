@@ -1,33 +1,28 @@
 -- Laws of the checks of a list of models: where model i is bad, where it passes, and what a list without a bad one tells.
 use mathlib.Core.Path.{_≡_, refl, ap, sym, _∙_, subst}
-use mathlib.Core.Bool.{true, _&&_}
+use mathlib.Core.Bool.{true, false}
 use mathlib.Core.List.{List, [], _∷_, _++_}
 use Prim.Native.Nat.{ℕ, zero, suc, _+_, _-_, _≤_, _<_}
 use native.Mathlib.Nat.{not-suc-le-zero}
 use native.Mathlib.Numerals.{add-one}
 use native.Mathlib.Omega.{arith}
-use lib.Dec.{ltb, leb}
+use lib.Dec.{leb}
 use lib.ListN.{length}
-use borrow.Author.Tests.{lt-ltb, le-ltb, ltb-true, leb-true}
+use borrow.Author.Tests.{leb-true}
 use Rattle.path.specs.Model.{Model, modelAt, pathOf}
 use Rattle.path.specs.Refusal.{check, refusalOf, roomFor, maxModels, modelChecks, sizeAbove, lossBelow}
-use Rattle.path.proofs.Checks.{numbered, both, check-fails, check-passes, passed, fails-early, passes-on, both-pass, room-parts}
+use Rattle.path.proofs.Checks.{numbered, check-fails, check-passes, passed, fails-early, passes-on, both-pass, room-parts}
 use Rattle.path.proofs.Order.{Passes, model-passes}
 use Rattle.build.specs.Build.{built, countOf, checksAt, listChecks, buildChecks}
 use Rattle.build.specs.Inner.{Buildable}
 
 module _ (a b : List ℕ) where
   -- The checks of one model.
-  pub lacks-size : (i : ℕ) → length a ≤ i → refusalOf (checksAt a b i) ≡ 5
-  lacks-size i h = check-fails (check 5 (ltb i (length a) && ltb i (length b))) _ (rw (le-ltb i (length a) h))
+  pub lacks-value : (i : ℕ) → roomFor (i + 1) (length a ∷ length b ∷ []) ≡ false → refusalOf (checksAt a b i) ≡ 5
+  lacks-value i h = check-fails (check 5 (roomFor (i + 1) (length a ∷ length b ∷ []))) _ h
 
-  pub lacks-loss : (i : ℕ) → i < length a → length b ≤ i → refusalOf (checksAt a b i) ≡ 5
-  lacks-loss i g h =
-      check-fails (check 5 (ltb i (length a) && ltb i (length b))) _ (rw (lt-ltb i (length a) g, le-ltb i (length b) h))
-
-  pub lacks-nothing : (i : ℕ) → i < length a → i < length b → refusalOf (checksAt a b i) ≡ refusalOf (modelChecks (pathOf a b i) (modelAt a b i))
-  lacks-nothing i g h =
-      check-passes (check 5 (ltb i (length a) && ltb i (length b))) _ (rw (lt-ltb i (length a) g, lt-ltb i (length b) h))
+  pub lacks-nothing : (i : ℕ) → roomFor (i + 1) (length a ∷ length b ∷ []) ≡ true → refusalOf (checksAt a b i) ≡ refusalOf (modelChecks (pathOf a b i) (modelAt a b i))
+  lacks-nothing i h = check-passes (check 5 (roomFor (i + 1) (length a ∷ length b ∷ []))) _ h
 
   -- The checks of the models from i on.
   checks-split : (i m : ℕ) → listChecks a b i (suc m) ≡ checksAt a b i ++ listChecks a b (suc i) m
@@ -69,9 +64,9 @@ module _ (a b : List ℕ) where
   -- Model k of a list without a bad one passes against the path before it.
   pub model-ready : (n k : ℕ) → refusalOf (listChecks a b 0 n) ≡ 0 → k < n → (k < length a) × (k < length b) × Passes (built a b k) (modelAt a b k)
   model-ready n k h p =
-      let e = passed (check 5 (ltb k (length a) && ltb k (length b))) (modelChecks (pathOf a b k) (modelAt a b k)) (omega arith) (each-passes n k h p) in
-      let f = both (ltb k (length a)) (ltb k (length b)) (e .0) in
-      (ltb-true _ _ (f .0), ltb-true _ _ (f .1), model-passes (built a b k) (modelAt a b k) (same-checks k (modelAt a b k) ∙ e .1))
+      let e = passed (check 5 (roomFor (k + 1) (length a ∷ length b ∷ []))) (modelChecks (pathOf a b k) (modelAt a b k)) (omega arith) (each-passes n k h p) in
+      let f = room-parts (k + 1) (length a ∷ length b ∷ []) (e .0) in
+      (omega (arith, f .0), omega (arith, f .1 .0), model-passes (built a b k) (modelAt a b k) (same-checks k (modelAt a b k) ∙ e .1))
 
   pub list-numbered : (m i : ℕ) → numbered (listChecks a b i m) ≡ true
   unfolding listChecks

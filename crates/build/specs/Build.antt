@@ -1,9 +1,8 @@
 -- The whole outcome of a build from a list of sizes and a list of losses: the path of its models, one after the other, and the tests
 -- made for each. The contract of `build` says that its outcome equals `buildOf`.
-use mathlib.Core.Bool.{_&&_}
 use mathlib.Core.List.{List, [], _∷_, _++_}
 use Prim.Native.Nat.{ℕ, zero, suc, _+_, max}
-use lib.Dec.{ltb, leb}
+use lib.Dec.{leb}
 use lib.ListN.{length}
 use Rattle.path.specs.Model.{Model, modelAt, pathOf}
 use Rattle.path.specs.Update.{extended, testsMade}
@@ -24,10 +23,11 @@ builtTests sizes losses (suc i) = builtTests sizes losses i + testsMade (built s
 abbrev pub countOf : List ℕ → List ℕ → ℕ
 countOf sizes losses = max (length sizes) (length losses)
 
--- The checks of model i: 5 where its size or its loss is lacking, then those of a new model after the one before it.
+-- The checks of model i: 5 where one of the lists ends before it, so that its size or its loss is lacking, then those of a new model
+-- after the one before it.
 abbrev pub checksAt : List ℕ → List ℕ → ℕ → List Check
 checksAt sizes losses i =
-    check 5 (ltb i (length sizes) && ltb i (length losses)) ∷ modelChecks (pathOf sizes losses i) (modelAt sizes losses i)
+    check 5 (roomFor (i + 1) (length sizes ∷ length losses ∷ [])) ∷ modelChecks (pathOf sizes losses i) (modelAt sizes losses i)
 
 -- The checks of m models from model i on. The first bad model decides.
 unfoldable pub listChecks : List ℕ → List ℕ → ℕ → ℕ → List Check

@@ -19,17 +19,15 @@ fn list_refusal(sizes: &[u64], losses: &[u64], count: usize) -> u64
 {
     let mut i = 0;
     while i < count {
-        if sizes.len() <= i {
-            return 5;
-        }
-        if losses.len() <= i {
+        let next = i + 1;
+        if !path::has_room(next, sizes.len(), losses.len()) {
             return 5;
         }
         let refusal = path::model_refusal(sizes, losses, i, sizes[i], losses[i]);
         if refusal != 0 {
             return refusal;
         }
-        i += 1;
+        i = next;
     }
     0
 }

@@ -258,8 +258,8 @@ pub fn append(
     }
     let found = try_model(sizes, losses, entries, size, loss, tally::none());
     let kept = found.entries;
-    let end = kept + 1;
-    if !path_has_room(end, sizes.len(), losses.len()) {
+    let count = kept + 1;
+    if !path_has_room(count, sizes.len(), losses.len()) {
         return refuse(9);
     }
     store(sizes, kept, entries, size);
@@ -267,7 +267,7 @@ pub fn append(
     let tests = found.tests;
     PathResult {
         refusal: 0,
-        entries: end,
+        entries: count,
         tests: tests,
     }
 }

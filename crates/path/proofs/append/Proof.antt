@@ -44,11 +44,12 @@ none-requires c κs = search needs
 try-model-requires : tie.Need-try-model-requires
 try-model-requires c κs = (sym (c .before .before .before .before .input-refusal .ensures) ∙ c .before .before .before .if1 .left, omega (arith, ap (λ (x : Tally). x .count) (c .none .ensures)))
 
-add-end : tie.Need-add-end
-add-end c =
+add-count : tie.Need-add-count
+add-count c =
     let a = c .before .before .before .before .before .before .before .before .before .before .args in
     let f = c .try-model in
-    omega (arith, kept-small (a .sizes .now) (a .losses .now) (a .entries) (model (a .size) (a .loss)) (sym (c .before .before .before .before .before .input-refusal .ensures) ∙ c .before .before .before .before .if1 .left) (f .result .entries) (ap (λ (x : Kept). x .entries) (f .ensures)))
+    let ok = acceptable (a .sizes .now) (a .losses .now) (a .entries) (model (a .size) (a .loss)) (sym (c .before .before .before .before .before .input-refusal .ensures) ∙ c .before .before .before .before .if1 .left) in
+    omega (arith, ok .valid .few, kept-small (a .sizes .now) (a .losses .now) (a .entries) (model (a .size) (a .loss)) (sym (c .before .before .before .before .before .input-refusal .ensures) ∙ c .before .before .before .before .if1 .left) (f .result .entries) (ap (λ (x : Kept). x .entries) (f .ensures)))
 
 path-has-room-requires : tie.Need-path-has-room-requires
 path-has-room-requires c κs = search needs
@@ -107,7 +108,7 @@ append-spec =
     returns
     none-requires
     try-model-requires
-    add-end
+    add-count
     path-has-room-requires
     refuse-requires-2
     same-length-3
