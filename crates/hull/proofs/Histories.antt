@@ -17,9 +17,9 @@ use Rattle.build.proofs.Lists.{buildable}
 use Rattle.build.proofs.Cases.{build-refused, build-accepted}
 use Rattle.hull.specs.History.{Start, emptyState, afterCall, modelsOf, begin, appends, history, pathAt}
 use Rattle.hull.specs.Claims.{modelsFrom, HistoryClaim, FallingClaim, NeverEightClaim, SelectClaim}
-use Rattle.hull.proofs.Winners.{winners, none-skipped}
+use Rattle.hull.proofs.Winners.{none-skipped, winners-with-skipped}
 use Rattle.hull.proofs.Counts.{counted-some, some-entries}
-use Rattle.hull.proofs.Selections.{selects-smallest}
+use Rattle.hull.proofs.Selections.{always-selects-smallest}
 use Rattle.hull.proofs.Orders.{never-eight}
 use Rattle.hull.proofs.Appends.{Standing, standing-empty, standing-left, standing-appends}
 use Rattle.hull.proofs.Builds.{reached-all}
@@ -57,8 +57,10 @@ standing start ms s l = standing-appends ms (begin start s l) (standing-begin st
 pub history-claim : HistoryClaim
 history-claim start ms s l =
     let x = history start ms s l in
-    let h = standing start ms s l in
-    (winners (pathAt x) (x .models) (h .sound), counted-some (pathAt x) (x .tests) (length (x .models)) (h .counted))
+    let h = standing start ms s l in (
+      winners-with-skipped (pathAt x) (x .models) (x .models) (h .sound) (none-skipped (x .models)),
+      counted-some (pathAt x) (x .tests) (length (x .models)) (h .counted),
+    )
 
 pub falling-claim : FallingClaim
 falling-claim start ms s l = standing start ms s l .sound .falling
@@ -68,8 +70,8 @@ never-eight-claim start ms s l =
     let x = history start ms s l in never-eight (x .sizes) (x .losses) (x .entries) (standing start ms s l .valid)
 
 pub select-claim : SelectClaim
-select-claim start ms s l some p q v =
+select-claim start ms s l some =
     let x = history start ms s l in
     let h = standing start ms s l in
     let entries = some-entries (pathAt x) (x .tests) (length (x .models)) (h .counted) some in
-    selects-smallest (x .sizes) (x .losses) (x .entries) (x .models) (x .models) (h .valid) (h .sound) (none-skipped (x .models)) (omega (arith, length-path (x .sizes) (x .losses) (x .entries))) p q v
+    always-selects-smallest (x .sizes) (x .losses) (x .entries) (x .models) (x .models) (h .valid) (h .sound) (none-skipped (x .models)) (omega (arith, length-path (x .sizes) (x .losses) (x .entries)))

@@ -1,6 +1,6 @@
 -- Equal fractions select the same, because each test of the walk is the same at both.
 use mathlib.Core.Path.{_≡_, refl, ap, sym, _∙_}
-use mathlib.Core.Logic.{_⊎_, ⊎-elim}
+use mathlib.Core.Logic.{⊎-elim}
 use mathlib.Core.List.{List}
 use Prim.Native.Nat.{ℕ, zero, suc, _*_, _-_, _≤_, _<_}
 use native.Mathlib.Nat.{mul-lt-mul-of-pos-left, lt-of-mul-lt-mul-left, mul-le-mul-left, le-of-mul-le-mul-left}

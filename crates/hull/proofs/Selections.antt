@@ -2,7 +2,7 @@
 -- smallest of the cheapest of all models. All is said of two buffers with a path at their front, wherever it came from.
 use mathlib.Core.Path.{_≡_, refl, ap}
 use mathlib.Core.Bool.{Bool, true, false, cond}
-use mathlib.Core.Logic.{_⊎_, inl, inr, ⊎-elim}
+use mathlib.Core.Logic.{⊎-elim}
 use mathlib.Core.List.{List, List·Memᴰ as Mem, List·Memᴰ·head as first, List·Memᴰ·tail as later, List·Memᴰ·cases-cons as first-or-later, List·Memᴰ·not-nil as not-in-none}
 use Prim.Native.Nat.{ℕ, zero, suc, _+_, _*_, _-_, _≤_, _<_}
 use native.Mathlib.Nat.{not-suc-le-zero, eq-or-lt-of-le, le-of-lt}
@@ -14,13 +14,13 @@ use Rattle.path.specs.Model.{Model, weight, modelAt, pathOf}
 use Rattle.path.specs.Update.{below, breakpoint}
 use Rattle.path.specs.Refusal.{ordered, validPath}
 use Rattle.path.proofs.Order.{valid-parts, ordered-near, ordered-front, ordered-ends}
-use Rattle.select.specs.Penalty.{validPenalty, cost}
-use Rattle.select.specs.Select.{selectedFrom, selected, selectOf}
+use Rattle.select.specs.Penalty.{cost}
+use Rattle.select.specs.Select.{selectedFrom, selected}
 use Rattle.select.proofs.Walks.{selected-within, accepted, select-done}
-use Rattle.hull.specs.Claims.{SmallestCheapest, SelectsSmallest, Falling}
+use Rattle.hull.specs.Claims.{SmallestCheapest, AlwaysSelectsSmallest, Falling}
 use Rattle.hull.proofs.Slopes.{less-or-not, not-below-smaller}
-use Rattle.hull.proofs.Costs.{Beats, cost-difference, covered-beaten}
-use Rattle.hull.proofs.Winners.{Sound, TriedOrSkipped, smallest-with-skipped}
+use Rattle.hull.proofs.Costs.{cost-difference}
+use Rattle.hull.proofs.Winners.{Sound, TriedOrSkipped, smallest-of-tried, smallest-with-skipped}
 
 module _ (s l : List ℕ) where
   -- An entry stands at a place.
@@ -115,47 +115,30 @@ module _ (s l : List ℕ) (n : ℕ) (models : List Model) (h : Sound (pathOf s l
   found = best s l p q n o (h .falling) (n - 1) 0 (omega arith)
 
   -- It is the smallest of the cheapest entries.
-  entry-costs : (z : Model) → Mem z (pathOf s l n) → cost p q choice ≤ cost p q z
-  entry-costs z i = let k = entry-place s l n z i in rw (k .2) (found .cheapest (k .0) (omega arith) (k .1))
-
-  entry-size : (z : Model) → Mem z (pathOf s l n) → cost p q z ≡ cost p q choice → choice .size ≤ z .size
-  entry-size z i e =
-      let k = entry-place s l n z i in
-      rw (k .2)
-      (⊎-elim (λ g. omega (arith, found .earlier-cost-more (k .0) (omega arith) g, ap (cost p q) (k .2)))
-      (λ g. ordered-ends s l (k .0) place (ordered-front s l n (suc (k .0)) o (k .1)) g .0)
-      (less-or-not (k .0) place))
-
-  -- A model that is no entry is beaten by one.
-  covered-costs : (z x : Model) → Mem x (pathOf s l n) → Beats p q x z → cost p q choice ≤ cost p q z
-  covered-costs z x i = let a = entry-costs x i in ⊎-elim (λ b. omega arith) (λ b. omega (arith, b .0))
-
-  covered-size : (z x : Model) → Mem x (pathOf s l n) → Beats p q x z → cost p q z ≡ cost p q choice → choice .size ≤ z .size
-  covered-size z x i b e =
-      let a = entry-costs x i in
-      ⊎-elim (λ (g : cost p q x < cost p q z). omega arith)
-      (λ (g : (cost p q x ≤ cost p q z) × (x .size < z .size)).
-      let k = g .0 in
-      let f : cost p q x ≡ cost p q choice = omega arith in
-      omega (arith, entry-size x i f, g .1))
-      b
-
-  -- On a sound path the entry selected is the smallest of the cheapest of the models tried.
-  pub selected-smallest : SmallestCheapest p q (modelAt s l (selected s l n p q)) models
-  selected-smallest =
+  smallest-entry : SmallestCheapest p q choice (pathOf s l n)
+  smallest-entry =
       record {
-        listed = h .entries choice (place-entry s l n place (omega (arith, selected-within s l p q (n - 1) 0 .1)));
-        cheapest = λ z i. ⊎-elim (entry-costs z) (λ k. let w = covered-beaten p q z (pathOf s l n) k in covered-costs z (w .0) (w .1) (w .2)) (h .known z i);
-        smallest = λ z i e. ⊎-elim (λ j. entry-size z j e) (λ k. let w = covered-beaten p q z (pathOf s l n) k in covered-size z (w .0) (w .1) (w .2) e) (h .known z i);
+        listed = place-entry s l n place (omega (arith, selected-within s l p q (n - 1) 0 .1));
+        cheapest = λ z i. let k = entry-place s l n z i in rw (k .2) (found .cheapest (k .0) (omega arith) (k .1));
+        smallest = λ z i e.
+            let k = entry-place s l n z i in
+            rw (k .2)
+            (⊎-elim (λ g. omega (arith, found .earlier-cost-more (k .0) (omega arith) g, ap (cost p q) (k .2)))
+            (λ g. ordered-ends s l (k .0) place (ordered-front s l n (suc (k .0)) o (k .1)) g .0)
+            (less-or-not (k .0) place));
       }
+
+  -- On a sound path it is the smallest of the cheapest of the models tried.
+  pub selected-smallest : SmallestCheapest p q (modelAt s l (selected s l n p q)) models
+  selected-smallest = smallest-of-tried (pathOf s l n) models h p q choice smallest-entry
 
   -- It is so of all models, where some are skipped.
   pub selected-with-skipped : (all : List Model) → TriedOrSkipped models all → SmallestCheapest p q (modelAt s l (selected s l n p q)) all
   selected-with-skipped all t = smallest-with-skipped models all t p q (modelAt s l (selected s l n p q)) selected-smallest
 
 -- On a valid and sound path with an entry every accepted penalty selects the smallest of the cheapest of all models.
-pub selects-smallest : (s l : List ℕ) (n : ℕ) (models all : List Model) → validPath s l n ≡ true → Sound (pathOf s l n) models → TriedOrSkipped models all → 1 ≤ n → (p q : ℕ) → validPenalty p q ≡ true → SelectsSmallest s l n p q all (selectOf s l n p q)
-selects-smallest s l n models all v h t some p q w =
+pub always-selects-smallest : (s l : List ℕ) (n : ℕ) (models all : List Model) → validPath s l n ≡ true → Sound (pathOf s l n) models → TriedOrSkipped models all → 1 ≤ n → AlwaysSelectsSmallest s l n all
+always-selects-smallest s l n models all v h t some p q w =
     let checks = accepted s l n p q record { valid = v; some = some; penalty = w } in
     rw (← select-done s l n p q checks (selected s l n p q) refl) record {
       accepted = refl;

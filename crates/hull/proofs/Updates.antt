@@ -3,14 +3,14 @@
 use mathlib.Core.Path.{_≡_, refl, ap, sym, _∙_}
 use mathlib.Core.Bool.{true, false}
 use mathlib.Core.Logic.{⊎-elim}
-use mathlib.Core.List.{List, [], _∷_}
+use mathlib.Core.List.{List, _∷_}
 use Prim.Native.Nat.{ℕ, zero, suc, _+_, _-_, _≤_, _<_}
 use native.Mathlib.Nat.{eq-or-lt-of-le, not-suc-le-zero}
 use native.Mathlib.Numerals.{add-one}
 use native.Mathlib.Omega.{arith}
 use lib.ListN.{length}
 use Rattle.path.specs.Model.{Model, modelAt, pathOf, valuesOf}
-use Rattle.path.specs.Update.{breakpoint, pathBreakpoints, holds, kept, extended, testsMade}
+use Rattle.path.specs.Update.{breakpoint, pathBreakpoints, kept, extended, testsMade}
 use Rattle.path.specs.Append.{PathOutcome, appendOf}
 use Rattle.path.proofs.Paths.{length-path, places-agree}
 use Rattle.path.proofs.Buffers.{path-overwritten}
@@ -21,7 +21,7 @@ use Rattle.hull.specs.Claims.{testAt, FirstModelClaim, UpdateClaim}
 pub first-model-claim : FirstModelClaim
 unfolding pathOf kept testsMade valuesOf
 first-model-claim s l m r =
-    rw (append-accepted s l 0 m (sym (append-refusal s l 0 m) ∙ r)) record { one = refl; untested = refl; first = refl }
+    rw (append-accepted s l 0 m (sym (append-refusal s l 0 m) ∙ r)) record { one-entry = refl; no-tests = refl; entry-is = refl }
 
 module _ (s l : List ℕ) (m : Model) where
   -- Of n + 1 entries the test holds at the last of the first k, and it fails at all after that.

@@ -30,8 +30,10 @@ pub record SmallestCheapest (p q : ℕ) (y : Model) (ms : List Model) : Type 0 w
 -- A path lists the models that can win: each entry is one of the models and at some fraction strictly cheaper than all others,
 -- and a model left off is at no fraction the smallest of the cheapest.
 pub record PathOfWinners (path ms : List Model) : Type 0 where
-  pub entries-win : (y : Model) → List·Memᴰ y path → List·Memᴰ y ms × ((p : ℕ) × (q : ℕ) × (0 < q) × CheapestAlone p q y ms)
-  pub left-off-lose : (z : Model) → List·Memᴰ z ms → (List·Memᴰ z path → ⊥) → (p q : ℕ) → 0 < q → SmallestCheapest p q z ms → ⊥
+  pub entries-win : (y : Model) → List·Memᴰ y path
+      → List·Memᴰ y ms × ((p : ℕ) × (q : ℕ) × (0 < q) × CheapestAlone p q y ms)
+  pub left-off-lose : (z : Model) → List·Memᴰ z ms → (List·Memᴰ z path → ⊥)
+      → (p q : ℕ) → 0 < q → SmallestCheapest p q z ms → ⊥
 
 -- The breakpoints fall strictly along a path: equation (6).
 abbrev pub Falling : List Model → Type 0
@@ -56,34 +58,41 @@ HistoryClaim = AfterEveryHistory (λ x. PathOfWinners (pathAt x) (x .models) × 
 abbrev pub FallingClaim : Type 0
 FallingClaim = AfterEveryHistory (λ x. Falling (pathAt x))
 
--- No call that is lent n entries in two buffers answers 8.
+-- No call that is lent the path of n entries in two buffers answers 8.
 pub record NeverEight (sizes losses : List ℕ) (n : ℕ) : Type 0 where
   pub append : (m : Model) → appendOf sizes losses n m .refusal ≡ 8 → ⊥
   pub select : (p q : ℕ) → selectOf sizes losses n p q .refusal ≡ 8 → ⊥
-  pub breakpoints : (numerators denominators : List ℕ) → breakpointsOf sizes losses n numerators denominators .refusal ≡ 8 → ⊥
+  pub breakpoints : (a b : List ℕ) → breakpointsOf sizes losses n a b .refusal ≡ 8 → ⊥
 
 -- The path that a history leaves can always be lent to the next call.
 abbrev pub NeverEightClaim : Type 0
 NeverEightClaim = AfterEveryHistory (λ x. NeverEight (x .sizes) (x .losses) (x .entries))
 
--- The answer r of a selection from n entries in two buffers gives one of them, the smallest of the cheapest of some models.
+-- The answer r of a selection from the path of n entries in two buffers gives one of them, the smallest of the cheapest of some
+-- models.
 pub record SelectsSmallest (sizes losses : List ℕ) (n p q : ℕ) (ms : List Model) (r : SelectResult) : Type 0 where
   pub accepted : r .refusal ≡ 0
   pub inside : r .index < n
   pub entry : modelAt sizes losses (r .index) ≡ model (r .size) (r .loss)
   pub smallest : SmallestCheapest p q (model (r .size) (r .loss)) ms
 
+-- Every accepted penalty selects so from the path of n entries in two buffers.
+abbrev pub AlwaysSelectsSmallest : List ℕ → List ℕ → ℕ → List Model → Type 0
+AlwaysSelectsSmallest sizes losses n ms =
+    (p q : ℕ) → validPenalty p q ≡ true → SelectsSmallest sizes losses n p q ms (selectOf sizes losses n p q)
+
 -- From the path that a history with an accepted model leaves, every accepted penalty selects the smallest of the cheapest of all
 -- accepted models.
 abbrev pub SelectClaim : Type 0
 SelectClaim =
     AfterEveryHistory
-    (λ x. 1 ≤ length (x .models) → (p q : ℕ) → validPenalty p q ≡ true → SelectsSmallest (x .sizes) (x .losses) (x .entries) p q (x .models) (selectOf (x .sizes) (x .losses) (x .entries) p q))
+    (λ x. 1 ≤ length (x .models) → AlwaysSelectsSmallest (x .sizes) (x .losses) (x .entries) (x .models))
 
 -- Equal fractions, such as 1/2 and 2/4, select the same from every list.
 abbrev pub SamePenaltyClaim : Type 0
 SamePenaltyClaim =
-    (s l : List ℕ) (n p q p' q' : ℕ) → validPenalty p q ≡ true → validPenalty p' q' ≡ true → p * q' ≡ p' * q → selectOf s l n p q ≡ selectOf s l n p' q'
+    (s l : List ℕ) (n p q p' q' : ℕ) → validPenalty p q ≡ true → validPenalty p' q' ≡ true → p * q' ≡ p' * q
+    → selectOf s l n p q ≡ selectOf s l n p' q'
 
 -- What a model costs at a fraction.
 abbrev pub costAt : Fraction → Model → ℕ
@@ -96,16 +105,16 @@ pub record Divides (b : Fraction) (earlier later : Model) : Type 0 where
   pub to-its-left : (f : Fraction) → below f b ≡ true → costAt f later < costAt f earlier
   pub to-its-right : (f : Fraction) → below b f ≡ true → costAt f earlier < costAt f later
 
--- So the breakpoint of (9) and (10) divides a model from one with a larger size and a smaller loss.
+-- The breakpoint of (9) and (10) divides a model from one with a larger size and a smaller loss.
 abbrev pub BreakpointCostClaim : Type 0
 BreakpointCostClaim = (d e : Model) → follows d e ≡ true → Divides (breakpoint d e) d e
 
--- m models of two lists from model i on, in their order.
+-- The m models of two lists from model i on, in their order.
 abbrev pub modelsFrom : List ℕ → List ℕ → ℕ → ℕ → List Model
 modelsFrom sizes losses i zero = []
 modelsFrom sizes losses i (suc m) = modelAt sizes losses i ∷ modelsFrom sizes losses (suc i) m
 
--- The outcome o of a build of some models agrees with the state x after appends.
+-- The outcome o of a build of some models agrees with the state x that appends leave.
 pub record SameAsAppends (o : PathOutcome) (ms : List Model) (x : State) : Type 0 where
   pub path : pathAt x ≡ pathOf (o .sizes) (o .losses) (o .entries)
   pub entries : x .entries ≡ o .entries
@@ -116,15 +125,16 @@ pub record SameAsAppends (o : PathOutcome) (ms : List Model) (x : State) : Type 
 abbrev pub BuildClaim : Type 0
 BuildClaim =
     (sizes losses s l : List ℕ) → buildOf sizes losses s l .refusal ≡ 0
-    → SameAsAppends (buildOf sizes losses s l) (modelsOf sizes losses) (appends (emptyState s l) (modelsFrom sizes losses 0 (countOf sizes losses)))
+    → SameAsAppends (buildOf sizes losses s l) (modelsOf sizes losses)
+    (appends (emptyState s l) (modelsFrom sizes losses 0 (countOf sizes losses)))
 
 -- The outcome o of an append has m as the only entry, after no test.
 pub record OnlyEntry (m : Model) (o : PathOutcome) : Type 0 where
-  pub one : o .entries ≡ 1
-  pub untested : o .tests ≡ 0
-  pub first : modelAt (o .sizes) (o .losses) 0 ≡ m
+  pub one-entry : o .entries ≡ 1
+  pub no-tests : o .tests ≡ 0
+  pub entry-is : modelAt (o .sizes) (o .losses) 0 ≡ m
 
--- (5) and (8) on an accepted append to the empty path.
+-- (5) and (8) hold on every accepted append to the empty path.
 abbrev pub FirstModelClaim : Type 0
 FirstModelClaim = (s l : List ℕ) (m : Model) → appendOf s l 0 m .refusal ≡ 0 → OnlyEntry m (appendOf s l 0 m)
 
@@ -132,7 +142,7 @@ FirstModelClaim = (s l : List ℕ) (m : Model) → appendOf s l 0 m .refusal ≡
 abbrev pub testAt : List ℕ → List ℕ → Model → ℕ → Bool
 testAt s l m i = holds (pathOf s l i) (modelAt s l i) m
 
--- (11) to (14) on the outcome o of an append of m to a path of n + 1 entries, I being the number of entries kept.
+-- (11) to (14) hold of the outcome o of an append of m to a path of n + 1 entries, I being the number of entries kept.
 pub record Updated (s l : List ℕ) (n : ℕ) (m : Model) (I : ℕ) (o : PathOutcome) : Type 0 where
   pub some-kept : (1 ≤ I) × (I ≤ suc n)
   pub kept-passes : testAt s l m (I - 1) ≡ true
@@ -141,12 +151,14 @@ pub record Updated (s l : List ℕ) (n : ℕ) (m : Model) (I : ℕ) (o : PathOut
   pub entries-grow : o .entries ≡ I + 1
   pub entries-stay : (i : ℕ) → i < I → modelAt (o .sizes) (o .losses) i ≡ modelAt s l i
   pub new-follows : modelAt (o .sizes) (o .losses) I ≡ m
-  pub breakpoints-are : pathBreakpoints (pathOf (o .sizes) (o .losses) (I + 1)) ≡ breakpoint (modelAt s l (I - 1)) m ∷ pathBreakpoints (pathOf s l I)
+  pub breakpoints-are : pathBreakpoints (pathOf (o .sizes) (o .losses) (I + 1))
+      ≡ breakpoint (modelAt s l (I - 1)) m ∷ pathBreakpoints (pathOf s l I)
 
--- They hold on every accepted append to a path that has an entry.
+-- (11) to (14) hold on every accepted append to a path that has an entry.
 abbrev pub UpdateClaim : Type 0
 UpdateClaim =
-    (s l : List ℕ) (n : ℕ) (m : Model) → appendOf s l (suc n) m .refusal ≡ 0 → Updated s l n m (length (kept (pathOf s l (suc n)) m)) (appendOf s l (suc n) m)
+    (s l : List ℕ) (n : ℕ) (m : Model) → appendOf s l (suc n) m .refusal ≡ 0
+    → Updated s l n m (length (kept (pathOf s l (suc n)) m)) (appendOf s l (suc n) m)
 
 -- Each call on a path answers its checks in order, and a refused one gives its number, zeros, and the buffers as they were.
 pub record PathRefusals : Type 0 where
