@@ -129,7 +129,7 @@ module _ (s l : List ℕ) (n : ℕ) (models : List Model) (h : Sound (pathOf s l
       }
 
   -- On a sound path it is the smallest of the cheapest of the models tried.
-  pub selected-smallest : SmallestCheapest p q (modelAt s l (selected s l n p q)) models
+  selected-smallest : SmallestCheapest p q (modelAt s l (selected s l n p q)) models
   selected-smallest = smallest-of-tried (pathOf s l n) models h p q choice smallest-entry
 
   -- It is so of all models, where some are skipped.
