@@ -1,6 +1,6 @@
--- Equal fractions select the same: each test of the walk is the same at both.
+-- Equal fractions select the same, because each test of the walk is the same at both.
 use mathlib.Core.Path.{_≡_, refl, ap, sym, _∙_}
-use mathlib.Core.Logic.{_⊎_, ⊎-elim}
+use mathlib.Core.Logic.{⊎-elim}
 use mathlib.Core.List.{List}
 use Prim.Native.Nat.{ℕ, zero, suc, _*_, _-_, _≤_, _<_}
 use native.Mathlib.Nat.{mul-lt-mul-of-pos-left, lt-of-mul-lt-mul-left, mul-le-mul-left, le-of-mul-le-mul-left}
@@ -15,13 +15,13 @@ use Rattle.hull.specs.Claims.{SamePenaltyClaim}
 use Rattle.hull.proofs.Slopes.{less-or-not}
 
 module _ (p q p' q' : ℕ) (positive : 1 ≤ q) (positive' : 1 ≤ q') (e : p * q' ≡ p' * q) where
-  -- the costs at two equal fractions are in proportion
+  -- The costs at two equal fractions are in proportion.
   scaled-cost : (m : Model) → q' * cost p q m ≡ q * cost p' q' m
   scaled-cost m =
       let f : p * q' * weight m ≡ p' * q * weight m = ap (λ (k : ℕ). k * weight m) e in
       omega arith
 
-  -- so that a comparison says the same at both
+  -- So a comparison says the same at both.
   same-test : (x y : Model) → ltb (cost p q x) (cost p q y) ≡ ltb (cost p' q' x) (cost p' q' y)
   same-test x y =
       ⊎-elim
@@ -33,7 +33,7 @@ module _ (p q p' q' : ℕ) (positive : 1 ≤ q) (positive' : 1 ≤ q') (e : p * 
       le-ltb _ _ h ∙ sym (le-ltb _ _ g))
       (less-or-not (cost p q x) (cost p q y))
 
-  -- and the walk ends at the same entry
+  -- The walk ends at the same entry.
   same-selected : (s l : List ℕ) (m i : ℕ) → selectedFrom s l p q i m ≡ selectedFrom s l p' q' i m
   unfolding selectedFrom
   same-selected s l zero i = refl
