@@ -61,7 +61,7 @@ shared-slice-read-numerators-2 : tie.Need-shared-slice-read-numerators-2 Inv-loo
 shared-slice-read-numerators-2 c = omega (arith, inside (c .before .before))
 
 sub-numerators : tie.Need-sub-numerators Inv-loop μ-loop
-sub-numerators c = omega (arith, near (c .before .before) .losses)
+sub-numerators c = omega (arith, near (c .before .before))
 
 mul-numerators-3 : tie.Need-mul-numerators-3 Inv-loop μ-loop
 mul-numerators-3 c = omega (arith, inside (c .before .before))
@@ -82,7 +82,7 @@ shared-slice-read-denominators-2 : tie.Need-shared-slice-read-denominators-2 Inv
 shared-slice-read-denominators-2 c = omega (arith, inside (c .before .before .before .before))
 
 sub-denominators : tie.Need-sub-denominators Inv-loop μ-loop
-sub-denominators c = omega (arith, near (c .before .before .before .before) .sizes)
+sub-denominators c = omega (arith, near (c .before .before .before .before))
 
 mul-denominators-3 : tie.Need-mul-denominators-3 Inv-loop μ-loop
 mul-denominators-3 c = omega (arith, inside (c .before .before .before .before))
