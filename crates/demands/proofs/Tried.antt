@@ -2,21 +2,21 @@
 use mathlib.Core.Path.{_≡_, refl, ap, sym, subst}
 use mathlib.Core.Bool.{Bool, true, false, cond}
 use mathlib.Core.Logic.{_⊎_, inl, inr, ⊎-elim}
-use mathlib.Core.List.{List, [], _∷_}
+use mathlib.Core.List.{List, [], _∷_, List·Memᴰ as Mem, List·Memᴰ·head as first, List·Memᴰ·tail as later, List·Memᴰ·cases-cons as first-or-later, List·Memᴰ·not-nil as not-in-none}
 use Prim.Native.Nat.{ℕ, zero, suc, _<_}
-use native.Mathlib.Nat.{eq-or-lt-of-le}
+use native.Mathlib.Nat.{eq-or-lt-of-le, not-suc-le-zero}
 use native.Mathlib.Omega.{arith}
 use lib.IntN.{ℤ}
 use borrow.Author.Tests.{ltb-true, ltb-false}
 use Rattle.path.specs.Model.{Model}
 use Rattle.path.specs.Update.{extended}
 use Rattle.path.specs.Refusal.{lossBelow}
-use Rattle.hull.specs.Claims.{In}
-use Rattle.hull.proofs.Winners.{Sound, sound-none, After, sound-extended, Skipped, TriedOrSkipped}
+use Rattle.path.proofs.Order.{After}
+use Rattle.hull.proofs.Winners.{Sound, sound-none, sound-extended, Skipped, TriedOrSkipped}
 use Rattle.signal.specs.Signal.{modelOf, modelsUpTo, signalPath}
 use Rattle.signal.proofs.Paths.{Sized, path-sized}
 
--- the models of the sizes up to k that were appended, the last one first
+-- The models of the sizes up to k that were appended, the last one first.
 unfoldable pub appended : List ℤ → ℕ → List Model
 appended xs zero = []
 appended xs (suc k) =
@@ -39,7 +39,7 @@ path-sound xs (suc k) = by-test (lossBelow (signalPath xs k) (modelOf xs k)) ref
     by-test true e h = sound-extended (signalPath xs k) (appended xs k) (modelOf xs k) h (after-last xs k (signalPath xs k) (path-sized xs k) e)
     by-test false e h = h
 
--- a size is skipped for the last entry
+-- A size is skipped for the last entry.
 skipped-for-last : (xs : List ℤ) (k : ℕ) (st models : List Model) → Sized xs k st → Sound st models → lossBelow st (modelOf xs k) ≡ false → Skipped models (modelOf xs k)
 unfolding lossBelow
 skipped-for-last xs k [] models z s h = absurd (subst cell (sym h) tt)
@@ -49,32 +49,32 @@ skipped-for-last xs k [] models z s h = absurd (subst cell (sym h) tt)
     cell false = Unit {0}
 skipped-for-last xs k (e ∷ r) models z s h =
     let f : e .size ≡ suc (z .0 .0) = ap (λ (m : Model). m .size) (z .0 .2) in
-    record { other = e; listed = s .entries e (inl refl); smaller = omega (arith, z .0 .1); loses-no-more = ltb-false _ _ h }
+    record { other = e; listed = s .entries e (first refl); smaller = omega (arith, z .0 .1); loses-no-more = ltb-false _ _ h }
 
 skipped-more : (models : List Model) (m z : Model) → Skipped models z → Skipped (m ∷ models) z
-skipped-more models m z k = record { other = k .other; listed = inr (k .listed); smaller = k .smaller; loses-no-more = k .loses-no-more }
+skipped-more models m z k = record { other = k .other; listed = later (k .listed); smaller = k .smaller; loses-no-more = k .loses-no-more }
 
 pub tried-or-skipped : (xs : List ℤ) (k : ℕ) → TriedOrSkipped (appended xs k) (modelsUpTo xs k)
 unfolding appended modelsUpTo
-tried-or-skipped xs zero = record { listed = λ z i. i; cases = λ z i. absurd i }
+tried-or-skipped xs zero = record { listed = λ z i. i; cases = λ z i. absurd (not-in-none i) }
 tried-or-skipped xs (suc k) = by-test (lossBelow (signalPath xs k) (modelOf xs k)) refl (tried-or-skipped xs k)
   where
     by-test : (b : Bool) → lossBelow (signalPath xs k) (modelOf xs k) ≡ b → TriedOrSkipped (appended xs k) (modelsUpTo xs k)
         → TriedOrSkipped (cond b (modelOf xs k ∷ appended xs k) (appended xs k)) (modelOf xs k ∷ modelsUpTo xs k)
     by-test true e h =
         record {
-          listed = λ z. ⊎-elim inl (λ i. inr (h .listed z i));
-          cases = λ z. ⊎-elim (λ q. inl (inl q)) (λ i. ⊎-elim (λ j. inl (inr j)) (λ s. inr (skipped-more (appended xs k) (modelOf xs k) z s)) (h .cases z i));
+          listed = λ z i. ⊎-elim first (λ j. later (h .listed z j)) (first-or-later i);
+          cases = λ z i. ⊎-elim (λ q. inl (first q)) (λ j. ⊎-elim (λ t. inl (later t)) (λ s. inr (skipped-more (appended xs k) (modelOf xs k) z s)) (h .cases z j)) (first-or-later i);
         }
     by-test false e h =
         record {
-          listed = λ z i. inr (h .listed z i);
-          cases = λ z. ⊎-elim (λ (q : z ≡ modelOf xs k). inr (rw q (skipped-for-last xs k (signalPath xs k) (appended xs k) (path-sized xs k) (path-sound xs k) e))) (h .cases z);
+          listed = λ z i. later (h .listed z i);
+          cases = λ z i. ⊎-elim (λ (q : z ≡ modelOf xs k). inr (rw q (skipped-for-last xs k (signalPath xs k) (appended xs k) (path-sized xs k) (path-sound xs k) e))) (h .cases z) (first-or-later i);
         }
 
--- every size up to k is among the models
-pub size-listed : (xs : List ℤ) (k m : ℕ) → m < k → In (modelOf xs m) (modelsUpTo xs k)
+-- Every size up to k is among the models.
+pub size-listed : (xs : List ℤ) (k m : ℕ) → m < k → Mem (modelOf xs m) (modelsUpTo xs k)
 unfolding modelsUpTo
-size-listed xs zero m h = omega arith
+size-listed xs zero m h = absurd (not-suc-le-zero h)
 size-listed xs (suc k) m h =
-    ⊎-elim (λ (e : m ≡ k). inl (ap (modelOf xs) e)) (λ (g : m < k). inr (size-listed xs k m g)) (eq-or-lt-of-le {n = m} {m = k} (omega arith))
+    ⊎-elim (λ (e : m ≡ k). first (ap (modelOf xs) e)) (λ (g : m < k). later (size-listed xs k m g)) (eq-or-lt-of-le {n = m} {m = k} (omega arith))
