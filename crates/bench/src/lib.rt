@@ -2,7 +2,7 @@
 // nothing, and no other crate uses it.
 
 ghost use mathlib.Core.Path.{_≡_};
-ghost use Rattle.signal.specs.Outcome.{splitOutcome, splitOf};
+ghost use Rattle.signal.specs.Split.{splitBuffers, splitOutcome, splitOf};
 use signal::SplitResult;
 
 // The segmentation of a signal at the penalty p / q, and the signal's path.
@@ -18,7 +18,14 @@ pub extern "C" fn foldwig_bench_split(
     path_losses: &mut [u64],
     scratch: &mut [u8],
 ) -> SplitResult
-    ensures { λ r. ⌜ splitOutcome r (now (starts .exit)) (now (levels .exit)) (now («path_sizes» .exit)) (now («path_losses» .exit)) (now (scratch .exit)) ≡ splitOf (now (samples .entry)) «max_segments» p q (now (starts .entry)) (now (levels .entry)) (now («path_sizes» .entry)) (now («path_losses» .entry)) (now (scratch .entry)) ⌝ }
+    ensures { λ r. ⌜ splitOutcome r
+        (splitBuffers
+        (now (starts .exit)) (now (levels .exit))
+        (now («path_sizes» .exit)) (now («path_losses» .exit)) (now (scratch .exit)))
+        ≡ splitOf (now (samples .entry)) «max_segments» p q
+        (splitBuffers
+        (now (starts .entry)) (now (levels .entry))
+        (now («path_sizes» .entry)) (now («path_losses» .entry)) (now (scratch .entry))) ⌝ }
 {
     signal::split(
         samples,

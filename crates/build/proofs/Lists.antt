@@ -52,11 +52,11 @@ module _ (a b : List ℕ) where
       rw e (later-passes m (suc i) k (both-pass (checksAt a b i) (listChecks a b (suc i) m) refl (sym (ap refusalOf (checks-split i m)) ∙ h) .1) (omega arith))
 
   -- In a list without a bad model each passes.
-  pub each-passes : (n k : ℕ) → refusalOf (listChecks a b 0 n) ≡ 0 → k < n → refusalOf (checksAt a b k) ≡ 0
+  each-passes : (n k : ℕ) → refusalOf (listChecks a b 0 n) ≡ 0 → k < n → refusalOf (checksAt a b k) ≡ 0
   each-passes n k h p = let e : 0 + k ≡ k = omega arith in subst (λ (j : ℕ). refusalOf (checksAt a b j) ≡ 0) e (later-passes n 0 k h p)
 
   -- The path's last entry is the model before, so that a model is checked against either alike.
-  pub same-checks : (i : ℕ) (m : Model) → refusalOf (modelChecks (built a b i) m) ≡ refusalOf (modelChecks (pathOf a b i) m)
+  same-checks : (i : ℕ) (m : Model) → refusalOf (modelChecks (built a b i) m) ≡ refusalOf (modelChecks (pathOf a b i) m)
   unfolding built pathOf sizeAbove lossBelow
   same-checks zero m = refl
   same-checks (suc i) m = refl

@@ -67,7 +67,7 @@ module _ (xs : List ℤ) (limit : ℕ) (b : PathBuffers) (bits : Samples16 xs) (
       always-selects-smallest s l (length path) (appended xs count) (modelsUpTo xs count) valid (rw is (path-sound xs count)) (tried-or-skipped xs count) some
 
   -- What the call leaves of it.
-  pub leaves-path : LeavesPath xs limit (pathFilled path count b) (length path)
+  leaves-path : LeavesPath xs limit (pathFilled path count b) (length path)
   leaves-path =
       let is = path-overwritten path count (b .sizes) (b .losses) in
       let valid = valid-overwritten path count (b .sizes) (b .losses) order few in
@@ -93,12 +93,12 @@ module _ (xs : List ℤ) (limit : ℕ) (b : PathBuffers) (bits : Samples16 xs) (
     answer = selectOf (sizesOf path) (lossesOf path) (length path) p q
 
     -- What is selected is the model of a size that occurs.
-    pub found : Entry xs count p q answer
+    found : Entry xs count p q answer
     found =
         entry xs count (sizesOf path) (lossesOf path) (length path) p q (record { one = one; is = path-alone path; valid = alone-valid; penalty = v }) answer refl
 
     -- It is the smallest of the cheapest.
-    pub smallest : SmallestCheapest p q (modelOf xs (found .last)) (modelsUpTo xs count)
+    smallest : SmallestCheapest p q (modelOf xs (found .last)) (modelsUpTo xs count)
     smallest =
         let same : model (answer .size) (answer .loss) ≡ modelOf xs (found .last) = rw (found .size, found .loss) in
         subst (λ (m : Model). SmallestCheapest p q m (modelsUpTo xs count)) same (selections (sizesOf path) (lossesOf path) (path-alone path) alone-valid p q v .smallest)
@@ -153,7 +153,7 @@ module _ (xs : List ℤ) (limit p q : ℕ) (b : SplitBuffers) (bits : Samples16 
         omega (arith, best .cheapest other listed, costs, ap (λ (m : ℕ). q * m) loss-given, ap (λ (m : ℕ). p * m) (here .size)) in
         omega (arith, best .smallest other listed same, here .size)
 
-  pub gives : GivesCheapest xs limit p q (splitAt xs (signalPath xs (sizeCount xs limit)) (sizeCount xs limit) p q b) (segmentation xs given)
+  gives : GivesCheapest xs limit p q (splitAt xs (signalPath xs (sizeCount xs limit)) (sizeCount xs limit) p q b) (segmentation xs given)
   gives =
       let reached = least-reached xs (given - 1) enough in
       let starts-long : length (startsOf (segmentation xs given)) ≡ given = perPiece-count pieceStart xs (given - 1) (length xs) ∙ one-more in

@@ -133,7 +133,7 @@ module _ (s l : List ℕ) (n : ℕ) (models : List Model) (h : Sound (pathOf s l
   selected-smallest = smallest-of-tried (pathOf s l n) models h p q choice smallest-entry
 
   -- It is so of all models, where some are skipped.
-  pub selected-with-skipped : (all : List Model) → TriedOrSkipped models all → SmallestCheapest p q (modelAt s l (selected s l n p q)) all
+  selected-with-skipped : (all : List Model) → TriedOrSkipped models all → SmallestCheapest p q (modelAt s l (selected s l n p q)) all
   selected-with-skipped all t = smallest-with-skipped models all t p q (modelAt s l (selected s l n p q)) selected-smallest
 
 -- On a valid and sound path with an entry every accepted penalty selects the smallest of the cheapest of all models.

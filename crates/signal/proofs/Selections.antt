@@ -88,7 +88,7 @@ module _ (xs : List ℤ) (count : ℕ) (s l : List ℕ) (n p q : ℕ) (ok : Path
       let e : count ≡ suc (count - 1) = omega (arith, ok .one) in
       omega (arith, entries, ap (λ (k : ℕ). length (signalPath xs k)) e, path-some xs (count - 1))
 
-  pub in-buffers : Selectable s l n p q
+  in-buffers : Selectable s l n p q
   in-buffers = record { valid = ok .valid; some = some; penalty = ok .penalty }
 
   alone : Selectable (sizesOf path) (lossesOf path) n p q
