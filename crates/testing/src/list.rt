@@ -25,10 +25,24 @@ pub fn put(values: &mut [u64], i: usize, value: u64) {
     }
 }
 
-// Writes a value at the first n places of a list.
-pub fn fill(values: &mut [u64], n: usize, value: u64) {
-    for i in 0..n {
+// Writes a value at index i where it is below n.
+fn put_below(values: &mut [u64], i: usize, n: usize, value: u64) {
+    if i < n {
         put(values, i, value);
+    }
+}
+
+// Writes a value at the first n places of a list, or at all where there are not so many.
+pub fn fill(values: &mut [u64], n: usize, value: u64) {
+    for i in 0..values.len() {
+        put_below(values, i, n, value);
+    }
+}
+
+// Writes 1, 2, 3 and so on to a list.
+pub fn count_up(values: &mut [u64]) {
+    for i in 0..values.len() {
+        put(values, i, plus(i as u64, 1));
     }
 }
 

@@ -1,17 +1,9 @@
 // Builds and paths at the limit of 4,096 models, from lists of 4,100 models.
 
 use crate::paths::calls;
+use testing::list::count_up;
 use testing::number::plus;
 use testing::text::print;
-
-// The sizes 1, 2 and so on.
-fn rising() -> [u64; 4100] {
-    let mut sizes = [0u64; 4100];
-    for i in 0..4100 {
-        sizes[i] = i as u64 + 1;
-    }
-    sizes
-}
 
 // Losses that fall by 1: of the models with them a path keeps the first and the last.
 fn straight() -> [u64; 4100] {
@@ -85,7 +77,8 @@ fn print_selection(sizes: &[u64], losses: &[u64], entries: usize) {
 }
 
 pub fn run() {
-    let sizes = rising();
+    let mut sizes = [0u64; 4100];
+    count_up(&mut sizes);
     let losses = straight();
     let bending = convex();
     print_builds(&sizes, &losses);
