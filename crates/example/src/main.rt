@@ -15,7 +15,7 @@ fn print_path(sizes: &[u64], losses: &[u64], entries: usize) {
 // Prints the model that a path of so many entries gives at the penalty p / q.
 fn print_selected(sizes: &[u64], losses: &[u64], entries: usize, p: u64, q: u64) {
     let model = select::select(sizes, losses, entries, p, q);
-    text::price(p, q, model.size, model.loss);
+    text::model(p, q, model.size, model.loss);
 }
 
 // Prints the path of a signal of three samples.
@@ -64,7 +64,7 @@ fn main() {
     let mut path_losses = [0u64; 3];
     let made = build::build(&sizes, &losses, &mut path_sizes, &mut path_losses);
     print_path(&path_sizes, &path_losses, made.entries);
-    text::tests(made.tests);
+    text::tests(testing::answer::tests_of(made));
     print_selected(&path_sizes, &path_losses, made.entries, 4, 1);
     print_selected(&path_sizes, &path_losses, made.entries, 1, 1);
     let samples = [0i16, 1, 0];

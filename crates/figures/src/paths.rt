@@ -1,12 +1,16 @@
 // The calls on paths: append, build, select and breakpoints.
 
+mod appends;
+mod builds;
 mod calls;
-mod cases;
 mod known;
 mod large;
+mod selections;
 
 pub fn run() {
     known::run();
-    cases::run();
+    appends::run();
+    builds::run();
+    selections::run();
     large::run();
 }

@@ -1,19 +1,24 @@
 // Random appends in buffers of a few places, after a build of a few models or a refused one, with refused appends among them.
 // Each answer, both whole buffers and the tests are compared with what an exhaustive search over the accepted models finds.
 
-use crate::exhaustive;
 use crate::history;
 use crate::history::History;
 use crate::models;
-use path::PathResult;
+use testing::answer::Answer;
+use testing::answer::answer_of;
+use testing::answer::no_call;
 use testing::list::MARK;
-use testing::list::fault;
 use testing::list::last;
-use testing::list::minus;
-use testing::list::plus;
 use testing::list::put;
+use testing::number::NONE;
+use testing::number::differs;
+use testing::number::fault;
+use testing::number::minus;
+use testing::number::plus;
 use testing::random::next;
 use testing::random::start;
+use testing::search::in_range;
+use testing::search::put_path;
 use testing::text::print;
 
 // What came of some calls: the mismatches, the tests, those accepted, and those refused by each number.
@@ -72,9 +77,17 @@ fn offer(before: State, x: u64) -> State {
     offered
 }
 
-// The refusal that is due to a model that comes after the first n of two lists, where it stands too: 5, 6, 7, 9 or 0.
+// The number of entries of the path of the first n models.
+fn path_length(sizes: &[u64], losses: &[u64], n: u64) -> u64 {
+    let mut path_sizes = [MARK; 24];
+    let mut path_losses = [MARK; 24];
+    put_path(sizes, losses, n as usize, &mut path_sizes, &mut path_losses)
+}
+
+// The refusal that is due to a model that comes after the first n of two lists, where it stands too: 5, 6, 7, 9 or 0. It is
+// NONE where the search has no path for it.
 fn append_due(sizes: &[u64], losses: &[u64], n: usize, size: u64, loss: u64, room: u64) -> u64 {
-    if !exhaustive::in_range(size, loss) {
+    if !in_range(size, loss) {
         return 5;
     }
     if size <= last(sizes, n, 0) {
@@ -83,21 +96,11 @@ fn append_due(sizes: &[u64], losses: &[u64], n: usize, size: u64, loss: u64, roo
     if last(losses, n, MARK) <= loss {
         return 7;
     }
-    if room < path_length(sizes, losses, n) {
-        return 9;
+    let entries = path_length(sizes, losses, plus(n as u64, 1));
+    if entries == NONE {
+        return NONE;
     }
-    0
-}
-
-// The number of entries of the path of the models as far as place n.
-fn path_length(sizes: &[u64], losses: &[u64], n: usize) -> u64 {
-    if sizes.len() <= n {
-        return 0;
-    }
-    if losses.len() <= n {
-        return 0;
-    }
-    exhaustive::entries(&sizes[0..n + 1], &losses[0..n + 1], n + 1)
+    if room < entries { 9 } else { 0 }
 }
 
 // The refusal that is due to the next model of a state.
@@ -118,30 +121,12 @@ fn build_due(n: usize, room: usize) -> u64 {
 }
 
 // The mismatches of an answer and the refusal that is due, with which all else is 0.
-fn answer_faults(answer: PathResult, due: u64) -> u64 {
+fn answer_faults(answer: Answer, due: u64) -> u64 {
     let zeros = answer.entries == 0 && answer.tests == 0;
     plus(
-        fault(answer.refusal == due),
+        differs(answer.refusal, due),
         fault(answer.refusal == 0 || zeros),
     )
-}
-
-// The mismatches of a path and the accepted models, which are the first of two lists.
-fn path_faults(
-    sizes: &[u64],
-    losses: &[u64],
-    path_sizes: &[u64],
-    path_losses: &[u64],
-    made: History,
-) -> u64 {
-    let n = made.accepted as usize;
-    if sizes.len() < n {
-        return 1;
-    }
-    if losses.len() < n {
-        return 1;
-    }
-    history::faults(&sizes[0..n], &losses[0..n], path_sizes, path_losses, made)
 }
 
 // Counts after a call to which a refusal was due, with so many mismatches and tests.
@@ -160,7 +145,7 @@ fn count(before: Counts, due: u64, faults: u64, tests: u64) -> Counts {
 // The state after a call that brought so many models, to which a refusal was due, and which left two buffers so.
 fn judge(
     before: State,
-    answer: PathResult,
+    answer: Answer,
     due: u64,
     models: u64,
     path_sizes: &[u64],
@@ -171,9 +156,10 @@ fn judge(
     let past = before.history;
     let counts = before.counts;
     let made = history::after(past, answer, models);
+    let n = made.accepted as usize;
     let faults = plus(
         answer_faults(answer, due),
-        path_faults(&sizes, &losses, path_sizes, path_losses, made),
+        history::faults(&sizes, &losses, n, path_sizes, path_losses, made),
     );
     let mut judged = before;
     judged.history = made;
@@ -185,13 +171,13 @@ fn judge(
 fn check_append(before: State, x: u64, path_sizes: &mut [u64], path_losses: &mut [u64]) -> State {
     let offered = offer(before, x);
     let made = offered.history;
-    let answer = path::append(
+    let answer = answer_of(path::append(
         path_sizes,
         path_losses,
-        made.entries,
+        made.entries as usize,
         offered.size,
         offered.loss,
-    );
+    ));
     let due = due(offered, path_sizes.len());
     judge(offered, answer, due, 1, path_sizes, path_losses)
 }
@@ -212,21 +198,21 @@ fn check_appends(
     made
 }
 
-// Builds the path of the first n models.
+// Builds the path of the first n models. Where there are not so many, no call is made, which counts as a fault.
 fn build_first(
     sizes: &[u64],
     losses: &[u64],
     n: usize,
     path_sizes: &mut [u64],
     path_losses: &mut [u64],
-) -> PathResult {
+) -> Answer {
     if sizes.len() < n {
-        return path::refuse(0);
+        return no_call();
     }
     if losses.len() < n {
-        return path::refuse(0);
+        return no_call();
     }
-    build::build(&sizes[0..n], &losses[0..n], path_sizes, path_losses)
+    answer_of(build::build(&sizes[0..n], &losses[0..n], path_sizes, path_losses))
 }
 
 // Builds the path of the first n models of a state, and compares.

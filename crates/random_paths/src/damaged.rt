@@ -1,15 +1,16 @@
 // Random paths of 24 entries, with two neighbours exchanged, one size or loss replaced, or another number of entries said:
 // every call refuses those, and only those, that a test of all pairs of entries finds out of order.
 
-use crate::exhaustive;
 use crate::models;
 use testing::list::MARK;
-use testing::list::fault;
-use testing::list::minus;
-use testing::list::plus;
-use testing::list::wrong_places;
+use testing::list::at;
+use testing::list::differences;
+use testing::number::fault;
+use testing::number::minus;
+use testing::number::plus;
 use testing::random::next;
 use testing::random::start;
+use testing::search::in_range;
 use testing::text::print;
 
 // What came of some paths.
@@ -30,6 +31,26 @@ fn damaged(kind: u64, value: u64) -> u64 {
     }
 }
 
+// Whether entry j is in range, and larger with a smaller loss than each one before it.
+fn follows_all(sizes: &[u64], losses: &[u64], j: usize) -> bool {
+    for i in 0..j {
+        if at(sizes, j) <= at(sizes, i) || at(losses, i) <= at(losses, j) {
+            return false;
+        }
+    }
+    in_range(at(sizes, j), at(losses, j))
+}
+
+// Whether the first entries of two lists are a path in order. A value past the end of a list is NONE, which is not in range.
+fn is_path(sizes: &[u64], losses: &[u64], entries: usize) -> bool {
+    for j in 0..entries {
+        if !follows_all(sizes, losses, j) {
+            return false;
+        }
+    }
+    true
+}
+
 // 1 where listing the breakpoints of a path is refused and it is good, or the other way round, and else 0.
 fn listing_fault(sizes: &[u64], losses: &[u64], entries: usize, good: bool) -> u64 {
     let mut numerators = [MARK; 24];
@@ -44,8 +65,8 @@ fn append_faults(sizes: [u64; 24], losses: [u64; 24], entries: usize, good: bool
     let mut path_losses = losses;
     let made = path::append(&mut path_sizes, &mut path_losses, entries, 65535, 0);
     let changed = plus(
-        wrong_places(&path_sizes, &sizes, 24, 0),
-        wrong_places(&path_losses, &losses, 24, 0),
+        differences(&path_sizes, &sizes),
+        differences(&path_losses, &losses),
     );
     plus(
         fault((made.refusal == 8) != good),
@@ -55,14 +76,14 @@ fn append_faults(sizes: [u64; 24], losses: [u64; 24], entries: usize, good: bool
 
 // The mismatches of a path of so many entries, and 1 where it is refused.
 fn check_path(sizes: [u64; 24], losses: [u64; 24], entries: usize) -> Counts {
-    let good = exhaustive::is_path(&sizes, &losses, entries);
+    let good = is_path(&sizes, &losses, entries);
     let selected = select::select(&sizes, &losses, entries, 1, 1);
-    let reading = plus(
+    let refusals = plus(
         fault((selected.refusal == 8) != good),
         listing_fault(&sizes, &losses, entries, good),
     );
     Counts {
-        faults: plus(reading, append_faults(sizes, losses, entries, good)),
+        faults: plus(refusals, append_faults(sizes, losses, entries, good)),
         refused: fault(selected.refusal != 8),
     }
 }

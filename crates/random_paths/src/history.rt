@@ -1,14 +1,17 @@
 // What has become of a path so far: the models accepted, the entries, the number of places written, and the tests.
 
-use crate::exhaustive;
-use testing::list::fault;
-use testing::list::minus;
-use testing::list::plus;
-use testing::list::wrong_places;
+use testing::answer::Answer;
+use testing::list::MARK;
+use testing::list::differences;
+use testing::list::fill;
+use testing::number::differs;
+use testing::number::minus;
+use testing::number::plus;
+use testing::search::put_path;
 
 pub struct History {
     pub accepted: u64,
-    pub entries: usize,
+    pub entries: u64,
     pub written: u64,
     pub tests: u64,
 }
@@ -29,44 +32,46 @@ fn larger(a: u64, b: u64) -> u64 {
 }
 
 // The history after a call that brought so many models. A refused call changes nothing.
-pub fn after(before: History, made: path::PathResult, models: u64) -> History {
-    if made.refusal != 0 {
+pub fn after(before: History, answer: Answer, models: u64) -> History {
+    if answer.refusal != 0 {
         return before;
     }
     History {
         accepted: plus(before.accepted, models),
-        entries: made.entries,
-        written: larger(before.written, larger(made.entries as u64, models)),
-        tests: plus(before.tests, made.tests),
+        entries: answer.entries,
+        written: larger(before.written, larger(answer.entries, models)),
+        tests: plus(before.tests, answer.tests),
     }
 }
 
-// The mismatches of the numbers in a history of some models: all are accepted, the entries are those that win somewhere, and
-// the tests are twice the models, less one and less the entries.
-fn number_faults(sizes: &[u64], losses: &[u64], made: History) -> u64 {
-    let n = sizes.len() as u64;
-    let m = exhaustive::entries(sizes, losses, sizes.len());
+// The mismatches of the numbers in a history of n models with a path of m entries: all are accepted, and the tests are twice the
+// models, less one and less the entries.
+fn number_faults(n: u64, m: u64, made: History) -> u64 {
+    let tests = minus(plus(n, n), plus(m, 1));
     plus(
-        fault(made.accepted == n && made.entries as u64 == m),
-        fault(made.tests == minus(plus(n, n), plus(m, 1))),
+        differs(made.accepted, n),
+        plus(differs(made.entries, m), differs(made.tests, tests)),
     )
 }
 
-// The mismatches of a history of some models and of the buffers that it left: the path that is right, zeros after it in the
-// places written, and then marks.
+// The mismatches of a history of the first n of two lists of models and of the buffers of at most 24 places that it left: the
+// path that is right, zeros after it in the places written, and then marks.
 pub fn faults(
     sizes: &[u64],
     losses: &[u64],
+    n: usize,
     path_sizes: &[u64],
     path_losses: &[u64],
     made: History,
 ) -> u64 {
-    let entries = made.entries;
-    let written = made.written as usize;
-    let rest = plus(
-        wrong_places(path_sizes, path_sizes, entries, written),
-        wrong_places(path_losses, path_losses, entries, written),
+    let mut right_sizes = [MARK; 24];
+    let mut right_losses = [MARK; 24];
+    fill(&mut right_sizes, made.written as usize, 0);
+    fill(&mut right_losses, made.written as usize, 0);
+    let m = put_path(sizes, losses, n, &mut right_sizes, &mut right_losses);
+    let path = plus(
+        differences(path_sizes, &right_sizes),
+        differences(path_losses, &right_losses),
     );
-    let path = exhaustive::path_faults(sizes, losses, path_sizes, path_losses);
-    plus(plus(rest, path), number_faults(sizes, losses, made))
+    plus(path, number_faults(n as u64, m, made))
 }

@@ -1,17 +1,19 @@
 // Random lists: builds, the same models appended one by one, breakpoints and selections, against what an exhaustive search
 // finds.
 
-use crate::exhaustive;
 use crate::history;
 use crate::history::History;
 use crate::models;
+use testing::answer::answer_of;
 use testing::list::MARK;
 use testing::list::at;
-use testing::list::fault;
-use testing::list::minus;
-use testing::list::plus;
+use testing::number::differs;
+use testing::number::fault;
+use testing::number::minus;
+use testing::number::plus;
 use testing::random::next;
 use testing::random::start;
+use testing::search::cheapest;
 use testing::text::print;
 
 // What was compared.
@@ -20,6 +22,25 @@ struct Totals {
     models: u64,
     entries: u64,
     tests: u64,
+}
+
+// Appends model i.
+fn append_next(
+    sizes: &[u64],
+    losses: &[u64],
+    i: usize,
+    path_sizes: &mut [u64],
+    path_losses: &mut [u64],
+    before: History,
+) -> History {
+    let made = path::append(
+        path_sizes,
+        path_losses,
+        before.entries as usize,
+        at(sizes, i),
+        at(losses, i),
+    );
+    history::after(before, answer_of(made), 1)
 }
 
 // Appends models one by one.
@@ -31,14 +52,7 @@ fn append_all(
 ) -> History {
     let mut made = history::empty();
     for i in 0..sizes.len() {
-        let answer = path::append(
-            path_sizes,
-            path_losses,
-            made.entries,
-            at(sizes, i),
-            at(losses, i),
-        );
-        made = history::after(made, answer, 1);
+        made = append_next(sizes, losses, i, path_sizes, path_losses, made);
     }
     made
 }
@@ -48,16 +62,17 @@ fn append_faults(sizes: &[u64], losses: &[u64]) -> u64 {
     let mut path_sizes = [MARK; 12];
     let mut path_losses = [MARK; 12];
     let made = append_all(sizes, losses, &mut path_sizes, &mut path_losses);
-    history::faults(sizes, losses, &path_sizes, &path_losses, made)
+    history::faults(sizes, losses, sizes.len(), &path_sizes, &path_losses, made)
 }
 
 // The distance of the values i and i + 1 of the first m, and a mark past them.
 fn gap_at(values: &[u64], m: u64, i: usize) -> u64 {
-    if m <= plus(i as u64, 1) {
+    let next = plus(i as u64, 1);
+    if m <= next {
         return MARK;
     }
     let here = at(values, i);
-    let after = at(values, plus(i as u64, 1) as usize);
+    let after = at(values, next as usize);
     plus(minus(here, after), minus(after, here))
 }
 
@@ -65,17 +80,22 @@ fn gap_at(values: &[u64], m: u64, i: usize) -> u64 {
 fn gap_faults(gaps: &[u64], values: &[u64], m: u64) -> u64 {
     let mut faults = 0;
     for i in 0..gaps.len() {
-        faults = plus(faults, fault(at(gaps, i) == gap_at(values, m, i)));
+        faults = plus(faults, differs(at(gaps, i), gap_at(values, m, i)));
     }
     faults
 }
 
 // The mismatches of the breakpoints of a path.
-fn breakpoint_faults(sizes: &[u64], losses: &[u64], entries: usize) -> u64 {
+fn breakpoint_faults(sizes: &[u64], losses: &[u64], m: u64) -> u64 {
     let mut numerators = [MARK; 12];
     let mut denominators = [MARK; 12];
-    let listed = select::breakpoints(sizes, losses, entries, &mut numerators, &mut denominators);
-    let m = entries as u64;
+    let listed = select::breakpoints(
+        sizes,
+        losses,
+        m as usize,
+        &mut numerators,
+        &mut denominators,
+    );
     plus(
         fault(listed.refusal == 0 && plus(listed.count as u64, 1) == m),
         plus(
@@ -96,10 +116,17 @@ fn selection_faults(
     q: u64,
 ) -> u64 {
     let model = select::select(path_sizes, path_losses, entries, p, q);
-    let best = exhaustive::cheapest(sizes, losses, p, q);
+    let best = cheapest(sizes, losses, sizes.len(), p, q);
+    let place = plus(
+        differs(model.refusal, 0),
+        differs(model.size, at(path_sizes, model.index)),
+    );
     plus(
-        fault(model.refusal == 0 && model.size == at(path_sizes, model.index)),
-        fault(model.size == at(sizes, best) && model.loss == at(losses, best)),
+        place,
+        plus(
+            differs(model.size, at(sizes, best)),
+            differs(model.loss, at(losses, best)),
+        ),
     )
 }
 
@@ -172,16 +199,17 @@ fn check_list(sizes: &[u64], losses: &[u64]) -> Totals {
     let n = sizes.len() as u64;
     let mut path_sizes = [MARK; 12];
     let mut path_losses = [MARK; 12];
-    let answer = build::build(sizes, losses, &mut path_sizes, &mut path_losses);
+    let answer = answer_of(build::build(sizes, losses, &mut path_sizes, &mut path_losses));
     let made = history::after(history::empty(), answer, n);
-    let building = history::faults(sizes, losses, &path_sizes, &path_losses, made);
-    let selecting = penalty_faults(sizes, losses, &path_sizes, &path_losses, made.entries);
+    let entries = made.entries as usize;
+    let building = history::faults(sizes, losses, sizes.len(), &path_sizes, &path_losses, made);
+    let selecting = penalty_faults(sizes, losses, &path_sizes, &path_losses, entries);
     let listing = breakpoint_faults(&path_sizes, &path_losses, made.entries);
     let appending = append_faults(sizes, losses);
     Totals {
         faults: plus(plus(building, selecting), plus(listing, appending)),
         models: n,
-        entries: made.entries as u64,
+        entries: made.entries,
         tests: made.tests,
     }
 }

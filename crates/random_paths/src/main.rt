@@ -3,7 +3,6 @@
 
 mod appends;
 mod damaged;
-mod exhaustive;
 mod history;
 mod lists;
 mod models;

@@ -2,9 +2,9 @@
 // falls; nearly convex, so that paths are long; losses to 2^41; and sizes to 60,000 with losses to 2^44.
 
 use testing::list::at;
-use testing::list::minus;
-use testing::list::plus;
-use testing::list::times;
+use testing::number::minus;
+use testing::number::plus;
+use testing::number::times;
 use testing::random::next;
 
 // The number of kinds.

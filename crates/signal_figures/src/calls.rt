@@ -1,162 +1,192 @@
-// The calls on signals. What is lent is in a case, and what is answered and what is then in the buffers is put into it. The
-// buffers hold marks before a call, and the scratch bytes are 7.
+// The calls on signals, each made on buffers of 40 places that hold marks and on scratch bytes that are 7.
 
 ghost use Prim.Native.Nat.{_≤_};
-use crate::case;
-use crate::case::Case;
-use crate::case::at;
-use crate::case::fill;
-use crate::case::put;
-use crate::number::plus;
+use crate::outcome::Outcome;
+use crate::outcome::SCRATCH;
+use crate::outcome::no_call;
+use std::num::wrapping_add_u64;
+use testing::list::MARK;
+use testing::sample::raise;
 
-// The scratch bytes that are lent, which are more than a call needs.
-pub const SCRATCH: usize = 32000;
+// What the starts and the levels hold before a call. A level that is the mark counts as a place that is as before, and so as a
+// mismatch where it is right.
+const START_MARK: u16 = 65535;
 
-// The mark as a level, which is lower by 32,768.
-const MARK_LEVEL: i16 = -32669;
+const LEVEL_MARK: i16 = -32669;
 
-// A sample raised by 32,768.
-fn raise(sample: i16) -> u64 {
-    segment::raise(sample) as u64
+// What is lent beside the samples: the limit, the penalty p / q, and the number of places of each buffer.
+pub struct Lent {
+    pub limit: u64,
+    pub p: u64,
+    pub q: u64,
+    pub starts: usize,
+    pub levels: usize,
+    pub sizes: usize,
+    pub losses: usize,
+    pub scratch: usize,
 }
 
-// The sample that a number is when it is raised.
-fn lower(raised: u64) -> i16 {
-    ((raised % 65536) as i32 - 32768) as i16
-}
-
-// Takes the samples out of a case.
-fn take_samples(case: &Case, samples: &mut [i16]) {
-    for i in 0..samples.len() {
-        samples[i] = lower(at(case, case::SAMPLES, i as u64));
+impl Lent {
+    // A limit and a penalty, with all places of each buffer.
+    pub fn of(limit: u64, p: u64, q: u64) -> Self {
+        Lent {
+            limit: limit,
+            p: p,
+            q: q,
+            starts: 40,
+            levels: 40,
+            sizes: 40,
+            losses: 40,
+            scratch: SCRATCH,
+        }
     }
 }
 
-// A number of places, and at most all of them.
-fn within(n: u64, all: usize) -> usize
-    ensures { λ r. ⌜ r ≤ all ⌝ }
-{
-    let places = n as usize;
-    if places < all { places } else { all }
+// Whether the buffers have so many places.
+fn fits(lent: Lent) -> bool {
+    let segments = lent.starts <= 40 && lent.levels <= 40;
+    let path = lent.sizes <= 40 && lent.losses <= 40;
+    segments && path && lent.scratch <= SCRATCH
 }
 
-// The number of places that are lent of a buffer: all of them, but for the one of which the case has a number.
-fn room(case: &Case, buffer: u64, all: usize) -> usize
+// A number of places, and at most all of them. With more no call is made.
+fn within(n: usize, all: usize) -> usize
     ensures { λ r. ⌜ r ≤ all ⌝ }
 {
-    if case[case::BUFFER] == buffer {
-        within(case[case::ROOM], all)
-    } else {
-        all
-    }
+    if n < all { n } else { all }
 }
 
-// A start as a number of a case.
+// A start as a number of 64 bits, and a mark where it is as before.
 fn widen(start: u16) -> u64 {
-    start as u64
-}
-
-// Puts what is in the buffers of starts and levels into a case.
-fn put_segments(case: &mut Case, starts: &[u16; 40], levels: &[i16; 40]) {
-    for i in 0..40 {
-        put(case, case::STARTS, i as u64, widen(starts[i]));
-        put(case, case::LEVELS, i as u64, raise(levels[i]));
+    if start == START_MARK {
+        MARK
+    } else {
+        start as u64
     }
 }
 
-// Puts what is in the buffers of a path into a case.
-fn put_path(case: &mut Case, sizes: &[u64; 40], losses: &[u64; 40]) {
+// The starts as numbers of 64 bits.
+fn starts_of(starts: &[u16; 40]) -> [u64; 40] {
+    let mut wide = [MARK; 40];
     for i in 0..40 {
-        put(case, case::SIZES, i as u64, sizes[i]);
-        put(case, case::LOSSES, i as u64, losses[i]);
+        wide[i] = widen(starts[i]);
+    }
+    wide
+}
+
+// A level, raised, and a mark where it is as before.
+fn raise_level(level: i16) -> u64 {
+    if level == LEVEL_MARK {
+        MARK
+    } else {
+        raise(level)
     }
 }
 
-// The number of bytes that are not a value.
+// The levels, raised.
+fn levels_of(levels: &[i16; 40]) -> [u64; 40] {
+    let mut raised = [MARK; 40];
+    for i in 0..40 {
+        raised[i] = raise_level(levels[i]);
+    }
+    raised
+}
+
+// The number of bytes that are not a value, which is too small to wrap.
 fn others(bytes: &[u8; SCRATCH], value: u8) -> u64 {
     let mut n = 0;
     for i in 0..SCRATCH {
         if bytes[i] != value {
-            n = plus(n, 1);
+            n = wrapping_add_u64(n, 1);
         }
     }
     n
 }
 
-// Puts what a call answered into a case, and what it left in the scratch.
-fn put_answer(
-    case: &mut Case,
-    refusal: u64,
-    segments: usize,
-    loss: u64,
-    entries: usize,
-    scratch: &[u8; SCRATCH],
-) {
-    case[case::REFUSAL] = refusal;
-    case[case::SEGMENTS] = segments as u64;
-    case[case::LOSS] = loss;
-    case[case::ENTRIES] = entries as u64;
-    case[case::NOT_ZERO] = others(scratch, 0);
-    case[case::NOT_AS_BEFORE] = others(scratch, 7);
-}
-
-// Splits the signal of a case.
-pub fn split(case: &mut Case) {
-    let mut samples = [0i16; 513];
-    let mut starts = [99u16; 40];
-    let mut levels = [MARK_LEVEL; 40];
-    let mut sizes = [case::MARK; 40];
-    let mut losses = [case::MARK; 40];
+// Splits a signal.
+fn split_all(samples: &[i16], lent: Lent) -> Outcome {
+    let mut starts = [START_MARK; 40];
+    let mut levels = [LEVEL_MARK; 40];
+    let mut sizes = [MARK; 40];
+    let mut losses = [MARK; 40];
     let mut scratch = [7u8; SCRATCH];
-    take_samples(case, &mut samples);
-    let count = within(case[case::COUNT], 513);
-    let starts_room = room(case, 1, 40);
-    let levels_room = room(case, 2, 40);
-    let sizes_room = room(case, 3, 40);
-    let losses_room = room(case, 4, 40);
-    let scratch_room = room(case, 5, SCRATCH);
+    let starts_room = within(lent.starts, 40);
+    let levels_room = within(lent.levels, 40);
+    let sizes_room = within(lent.sizes, 40);
+    let losses_room = within(lent.losses, 40);
+    let scratch_room = within(lent.scratch, SCRATCH);
     let made = signal::split(
-        &samples[0..count],
-        case[case::LIMIT],
-        case[case::P],
-        case[case::Q],
+        samples,
+        lent.limit,
+        lent.p,
+        lent.q,
         &mut starts[0..starts_room],
         &mut levels[0..levels_room],
         &mut sizes[0..sizes_room],
         &mut losses[0..losses_room],
         &mut scratch[0..scratch_room],
     );
-    put_answer(
-        case,
-        made.refusal,
-        made.segments,
-        made.loss,
-        made.entries,
-        &scratch,
-    );
-    put_segments(case, &starts, &levels);
-    put_path(case, &sizes, &losses);
+    Outcome {
+        refusal: made.refusal,
+        segments: made.segments as u64,
+        loss: made.loss,
+        entries: made.entries as u64,
+        nonzero: others(&scratch, 0),
+        changed: others(&scratch, 7),
+        starts: starts_of(&starts),
+        levels: levels_of(&levels),
+        sizes: sizes,
+        losses: losses,
+    }
 }
 
-// Calls for the path of the signal of a case. The starts and the levels are as before it.
-pub fn signal_path(case: &mut Case) {
-    let mut samples = [0i16; 513];
-    let mut sizes = [case::MARK; 40];
-    let mut losses = [case::MARK; 40];
+// Splits the first samples, where there are so many.
+pub fn split(samples: &[i16], count: usize, lent: Lent) -> Outcome {
+    if samples.len() < count {
+        return no_call();
+    }
+    if !fits(lent) {
+        return no_call();
+    }
+    split_all(&samples[0..count], lent)
+}
+
+// Calls for the path of a signal. It is lent no starts and no levels.
+fn path_of_all(samples: &[i16], lent: Lent) -> Outcome {
+    let mut sizes = [MARK; 40];
+    let mut losses = [MARK; 40];
     let mut scratch = [7u8; SCRATCH];
-    take_samples(case, &mut samples);
-    let count = within(case[case::COUNT], 513);
-    let sizes_room = room(case, 3, 40);
-    let losses_room = room(case, 4, 40);
-    let scratch_room = room(case, 5, SCRATCH);
+    let sizes_room = within(lent.sizes, 40);
+    let losses_room = within(lent.losses, 40);
+    let scratch_room = within(lent.scratch, SCRATCH);
     let made = signal::signal_path(
-        &samples[0..count],
-        case[case::LIMIT],
+        samples,
+        lent.limit,
         &mut sizes[0..sizes_room],
         &mut losses[0..losses_room],
         &mut scratch[0..scratch_room],
     );
-    put_answer(case, made.refusal, 0, 0, made.entries, &scratch);
-    fill(case, case::STARTS, 80, case::MARK);
-    put_path(case, &sizes, &losses);
+    Outcome {
+        refusal: made.refusal,
+        segments: 0,
+        loss: 0,
+        entries: made.entries as u64,
+        nonzero: others(&scratch, 0),
+        changed: others(&scratch, 7),
+        starts: [MARK; 40],
+        levels: [MARK; 40],
+        sizes: sizes,
+        losses: losses,
+    }
+}
+
+// Calls for the path of the first samples, where there are so many.
+pub fn signal_path(samples: &[i16], count: usize, lent: Lent) -> Outcome {
+    if samples.len() < count {
+        return no_call();
+    }
+    if !fits(lent) {
+        return no_call();
+    }
+    path_of_all(&samples[0..count], lent)
 }

@@ -1,17 +1,18 @@
 // The test program of the calls on signals. It prints figures that the calls give, their answers at the limits, and what came
-// of comparing them with a search through every segmentation of random signals. The file `stdout` has the lines that are right.
+// of comparing them with a search through every segmentation of short random signals, and with a plain dynamic programme on
+// long ones. The file `stdout` has the lines that are right.
 
 mod calls;
-mod case;
+mod every;
 mod figures;
-mod levels;
-mod number;
-mod paths;
-mod segmentations;
-mod signals;
-mod text;
+mod long;
+mod outcome;
+mod programme;
+mod segmentation;
+mod short;
 
 fn main() {
     figures::run();
-    signals::run();
+    short::run();
+    long::run();
 }

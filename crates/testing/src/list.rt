@@ -1,14 +1,16 @@
-// Lists of numbers, read and written with no index out of range, and arithmetic that cannot fail.
+// Lists of numbers, read and written with no index out of range. A value past the end is NONE, so that a list that is too short
+// counts as a fault where it is compared.
 
-ghost use Prim.Native.Nat.{_<_, _^_};
-use std::num::wrapping_add_u64;
+use crate::number::NONE;
+use crate::number::differs;
+use crate::number::plus;
 
 // What the buffers of a test hold before a call, which is no size and no loss.
 pub const MARK: u64 = 99999999999999;
 
-// The value at index i, and 0 past the end.
+// The value at index i, and NONE past the end.
 pub fn at(values: &[u64], i: usize) -> u64 {
-    if i < values.len() { values[i] } else { 0 }
+    if i < values.len() { values[i] } else { NONE }
 }
 
 // The last of the first n values, and another number where n is 0.
@@ -16,10 +18,31 @@ pub fn last(values: &[u64], n: usize, otherwise: u64) -> u64 {
     if n == 0 { otherwise } else { at(values, n - 1) }
 }
 
-// Writes a value at index i, and nothing past the end.
+// Writes a value at index i, and nothing past the end, where a value that is read is NONE.
 pub fn put(values: &mut [u64], i: usize, value: u64) {
     if i < values.len() {
         values[i] = value;
+    }
+}
+
+// Writes a value at index i where it is below n.
+fn put_below(values: &mut [u64], i: usize, n: usize, value: u64) {
+    if i < n {
+        put(values, i, value);
+    }
+}
+
+// Writes a value at the first n places of a list, or at all where there are not so many.
+pub fn fill(values: &mut [u64], n: usize, value: u64) {
+    for i in 0..values.len() {
+        put_below(values, i, n, value);
+    }
+}
+
+// Writes 1, 2, 3 and so on to a list.
+pub fn count_up(values: &mut [u64]) {
+    for i in 0..values.len() {
+        put(values, i, plus(i as u64, 1));
     }
 }
 
@@ -30,58 +53,11 @@ pub fn copy(from: &[u64], to: &mut [u64]) {
     }
 }
 
-// The sum of two numbers, which wraps.
-pub fn plus(a: u64, b: u64) -> u64 {
-    wrapping_add_u64(a, b)
-}
-
-// The difference of two numbers, and 0 where it would be negative.
-pub fn minus(a: u64, b: u64) -> u64 {
-    if a < b { 0 } else { a - b }
-}
-
-// The product of a number of at most 2^44 and one of at most 65,535, and 0 where one is larger.
-pub fn times(a: u64, b: u64) -> u64
-    ensures { λ r. ⌜ r < 2 ^ 60 ⌝ }
-{
-    if 17592186044416 < a {
-        return 0;
-    }
-    if 65535 < b {
-        return 0;
-    }
-    a * b
-}
-
-// 1 where a test fails, and else 0.
-pub fn fault(holds: bool) -> u64 {
-    if holds { 0 } else { 1 }
-}
-
-// What place i of a buffer holds that has the first n values of a front, zeros as far as a place, and then marks.
-fn expected_at(front: &[u64], n: usize, zeros: usize, i: usize) -> u64 {
-    if i < n {
-        at(front, i)
-    } else if i < zeros {
-        0
-    } else {
-        MARK
-    }
-}
-
-// The number of places of a buffer that do not hold that.
-pub fn wrong_places(values: &[u64], front: &[u64], n: usize, zeros: usize) -> u64 {
-    let mut wrong = 0;
+// The number of places of a list that do not hold what is right.
+pub fn differences(values: &[u64], right: &[u64]) -> u64 {
+    let mut count = 0;
     for i in 0..values.len() {
-        wrong = plus(
-            wrong,
-            fault(at(values, i) == expected_at(front, n, zeros, i)),
-        );
+        count = plus(count, differs(at(values, i), at(right, i)));
     }
-    wrong
-}
-
-// The number of places of a buffer that are not as before, when it had a front of values and then marks.
-pub fn changed(values: &[u64], front: &[u64]) -> u64 {
-    wrong_places(values, front, front.len(), 0)
+    count
 }

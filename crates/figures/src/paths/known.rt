@@ -1,5 +1,6 @@
 // The figures of 01 for a path that is built: its entries, its breakpoints and the tests made.
 
+use testing::answer::tests_of;
 use testing::text::print;
 use testing::text::print_list;
 
@@ -10,7 +11,7 @@ fn print_path(sizes: &[u64], losses: &[u64], entries: usize) {
     let listed = select::breakpoints(sizes, losses, entries, &mut numerators, &mut denominators);
     print_list(b", sizes", sizes, entries);
     print_list(b", losses", losses, entries);
-    print_list(b", breaks", &numerators, listed.count);
+    print_list(b", breakpoints", &numerators, listed.count);
     print_list(b" over", &denominators, listed.count);
 }
 
@@ -19,9 +20,10 @@ fn print_built(sizes: &[u64], losses: &[u64]) {
     let mut path_sizes = [0u64; 5];
     let mut path_losses = [0u64; 5];
     let made = build::build(sizes, losses, &mut path_sizes, &mut path_losses);
+    let entries = made.entries;
     print_list(b"path of", losses, losses.len());
-    print(b": tests #", &[made.tests]);
-    print_path(&path_sizes, &path_losses, made.entries);
+    print(b": tests #", &[tests_of(made)]);
+    print_path(&path_sizes, &path_losses, entries);
     print(b"\n", &[]);
 }
 

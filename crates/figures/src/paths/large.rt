@@ -1,18 +1,9 @@
 // Builds and paths at the limit of 4,096 models, from lists of 4,100 models.
 
 use crate::paths::calls;
-use testing::list::at;
-use testing::list::plus;
+use testing::list::count_up;
+use testing::number::plus;
 use testing::text::print;
-
-// The sizes 1, 2 and so on.
-fn rising() -> [u64; 4100] {
-    let mut sizes = [0u64; 4100];
-    for i in 0..4100 {
-        sizes[i] = i as u64 + 1;
-    }
-    sizes
-}
 
 // Losses that fall by 1: of the models with them a path keeps the first and the last.
 fn straight() -> [u64; 4100] {
@@ -34,7 +25,7 @@ fn convex() -> [u64; 4100] {
     losses
 }
 
-// A build from the first n sizes and the first m losses.
+// A build from the first n sizes and the first m losses. Where the lists have not so many, no line is printed.
 fn print_build(sizes: &[u64], losses: &[u64], n: usize, m: usize) {
     if sizes.len() < n {
         return;
@@ -58,73 +49,41 @@ fn print_builds(sizes: &[u64], losses: &[u64]) {
     print_build(sizes, losses, 0, 0);
 }
 
-// An append: the entries, the places, and the new model.
-fn print_append(sizes: &[u64], losses: &[u64], row: &[u64]) {
-    print(b"append to # entries in # places, model # #", row);
-    calls::print_append(
-        sizes,
-        losses,
-        at(row, 0) as usize,
-        at(row, 1) as usize,
-        at(row, 2),
-        at(row, 3),
+// An append of a model to the first entries, in so many places.
+fn print_append(sizes: &[u64], losses: &[u64], entries: usize, room: usize, size: u64, loss: u64) {
+    print(
+        b"append to # entries in # places, model # #",
+        &[entries as u64, room as u64, size, loss],
     );
-}
-
-fn print_appends(sizes: &[u64], losses: &[u64], rows: &[u64]) {
-    for i in 0..rows.len() / 4 {
-        print_append(sizes, losses, &rows[i * 4..i * 4 + 4]);
-    }
-}
-
-// A selection and a listing on the first entries.
-fn print_reading(sizes: &[u64], losses: &[u64], entries: usize) {
-    print(b"path of # entries", &[entries as u64]);
-    calls::print_reading(sizes, losses, entries, 2000, 1);
+    calls::print_append(sizes, losses, entries, room, size, loss);
 }
 
 // Appends to full paths: with no place for one more, with one, as entry 4,097 in 4,096 places and in more, one that drops an
 // entry at a tie, one that drops many, and one to a path over the limit.
+fn print_appends(sizes: &[u64], losses: &[u64]) {
+    print_append(sizes, losses, 4095, 4095, 4099, 1000015);
+    print_append(sizes, losses, 4095, 4096, 4099, 1000015);
+    print_append(sizes, losses, 4096, 4096, 4097, 1000013);
+    print_append(sizes, losses, 4096, 4100, 4097, 1000013);
+    print_append(sizes, losses, 4096, 4096, 4097, 1000008);
+    print_append(sizes, losses, 4096, 4096, 4097, 0);
+    print_append(sizes, losses, 4097, 4100, 4101, 0);
+}
+
+// A selection from the first entries, and a list of their breakpoints.
+fn print_selection(sizes: &[u64], losses: &[u64], entries: usize) {
+    print(b"select from # entries", &[entries as u64]);
+    calls::print_selection(sizes, losses, entries, 2000, 1);
+}
+
 pub fn run() {
-    let sizes = rising();
+    let mut sizes = [0u64; 4100];
+    count_up(&mut sizes);
     let losses = straight();
     let bending = convex();
     print_builds(&sizes, &losses);
     print_build(&sizes, &bending, 4096, 4096);
-    print_appends(
-        &sizes,
-        &bending,
-        &[
-            4095,
-            4095,
-            4099,
-            1000015, //
-            4095,
-            4096,
-            4099,
-            1000015, //
-            4096,
-            4096,
-            4097,
-            1000013, //
-            4096,
-            4100,
-            4097,
-            1000013, //
-            4096,
-            4096,
-            4097,
-            1000008, //
-            4096,
-            4096,
-            4097,
-            0, //
-            4097,
-            4100,
-            4101,
-            0, //
-        ],
-    );
-    print_reading(&sizes, &bending, 4096);
-    print_reading(&sizes, &bending, 4097);
+    print_appends(&sizes, &bending);
+    print_selection(&sizes, &bending, 4096);
+    print_selection(&sizes, &bending, 4097);
 }
