@@ -34,7 +34,7 @@ unfoldable pub listChecks : List ℕ → List ℕ → ℕ → ℕ → List Check
 listChecks sizes losses i zero = []
 listChecks sizes losses i (suc m) = checksAt sizes losses i ++ listChecks sizes losses (suc i) m
 
--- The checks of a build of n models into buffers of two lengths: 1, 2, then 5, 6, 7 at the first bad model, then 9.
+-- The checks of a build of n models into buffers of two lengths: 1, 2, for each model in turn 5, 6, 7, then 9.
 abbrev pub checksOf : List ℕ → List ℕ → ℕ → ℕ → ℕ → List Check
 checksOf sizes losses n sizesRoom lossesRoom =
     check 1 (leb 1 n)
