@@ -5,6 +5,7 @@ use crate::models;
 use testing::list::MARK;
 use testing::list::at;
 use testing::list::differences;
+use testing::list::put;
 use testing::number::fault;
 use testing::number::minus;
 use testing::number::plus;
@@ -88,22 +89,29 @@ fn check_path(sizes: [u64; 24], losses: [u64; 24], entries: usize) -> Counts {
     }
 }
 
+// A list with value i exchanged with value j, which may be the same, and then damaged.
+fn exchange(values: [u64; 24], i: usize, j: usize, kind: u64) -> [u64; 24] {
+    let mut changed = values;
+    let value = at(&values, i);
+    put(&mut changed, i, at(&values, j));
+    put(&mut changed, j, damaged(kind, value));
+    changed
+}
+
 // The path n: now and then with an entry more said than there are, with the entry i exchanged with the one before it, or with
 // a size or a loss of it damaged.
 fn check_random(n: u64) -> Counts {
     let x = start(2, n);
     let y = next(x);
-    let mut sizes = models::sizes(1, x);
-    let mut losses = models::losses(1, y, &sizes, 0);
+    let sizes = models::sizes(1, x);
+    let losses = models::losses(1, y, &sizes, 0);
     let i = (x % 23) as usize + 1;
     let j = i - (y % 2) as usize;
-    let size = sizes[i];
-    let loss = losses[i];
-    sizes[i] = sizes[j];
-    losses[i] = losses[j];
-    sizes[j] = damaged(n % 12, size);
-    losses[j] = damaged(n / 12 % 12, loss);
-    check_path(sizes, losses, 25 - (y % 5) as usize)
+    check_path(
+        exchange(sizes, i, j, n % 12),
+        exchange(losses, i, j, n / 12 % 12),
+        25 - (y % 5) as usize,
+    )
 }
 
 fn check_many(paths: u64) -> Counts {

@@ -2,7 +2,6 @@
 
 use testing::answer::Answer;
 use testing::answer::answer_of;
-use testing::answer::no_call;
 use testing::list::MARK;
 use testing::list::copy;
 use testing::list::differences;
@@ -11,10 +10,10 @@ use testing::text::print;
 // Prints what an append or a build answered, and the number of places at which two buffers are not as before.
 fn print_answer(
     answer: Answer,
-    sizes: &[u64],
-    losses: &[u64],
-    sizes_before: &[u64],
-    losses_before: &[u64],
+    sizes: &[u64; 4100],
+    losses: &[u64; 4100],
+    sizes_before: &[u64; 4100],
+    losses_before: &[u64; 4100],
 ) {
     print(
         b": refusal # entries # tests # changed # #\n",
@@ -28,31 +27,8 @@ fn print_answer(
     );
 }
 
-// Appends a model in the first places of two buffers. Where they have not so many, no call is made, which the line shows.
-fn append_in(
-    sizes: &mut [u64],
-    losses: &mut [u64],
-    entries: usize,
-    room: usize,
-    size: u64,
-    loss: u64,
-) -> Answer {
-    if sizes.len() < room {
-        return no_call();
-    }
-    if losses.len() < room {
-        return no_call();
-    }
-    answer_of(path::append(
-        &mut sizes[0..room],
-        &mut losses[0..room],
-        entries,
-        size,
-        loss,
-    ))
-}
-
-// An append to a path in the first places of buffers that have it at the front.
+// An append to a path in the first places of buffers that have it at the front. Where the buffers have not so many places, no
+// call is made and the line ends early.
 pub fn print_append(
     sizes: &[u64],
     losses: &[u64],
@@ -63,13 +39,22 @@ pub fn print_append(
 ) {
     let mut path_sizes = [MARK; 4100];
     let mut path_losses = [MARK; 4100];
+    if 4100 < room {
+        return;
+    }
     copy(sizes, &mut path_sizes);
     copy(losses, &mut path_losses);
     let sizes_before = path_sizes;
     let losses_before = path_losses;
-    let answer = append_in(&mut path_sizes, &mut path_losses, entries, room, size, loss);
+    let made = path::append(
+        &mut path_sizes[0..room],
+        &mut path_losses[0..room],
+        entries,
+        size,
+        loss,
+    );
     print_answer(
-        answer,
+        answer_of(made),
         &path_sizes,
         &path_losses,
         &sizes_before,
@@ -77,35 +62,21 @@ pub fn print_append(
     );
 }
 
-// Builds a path in the first places of two buffers. Where they have not so many, no call is made, which the line shows.
-fn build_in(
-    sizes: &[u64],
-    losses: &[u64],
-    path_sizes: &mut [u64],
-    path_losses: &mut [u64],
-    room: usize,
-) -> Answer {
-    if path_sizes.len() < room {
-        return no_call();
-    }
-    if path_losses.len() < room {
-        return no_call();
-    }
-    answer_of(build::build(
-        sizes,
-        losses,
-        &mut path_sizes[0..room],
-        &mut path_losses[0..room],
-    ))
-}
-
-// A build in the first places of buffers.
+// A build in the first places of buffers. Where the buffers have not so many places, no call is made and the line ends early.
 pub fn print_build(sizes: &[u64], losses: &[u64], room: usize) {
     let before = [MARK; 4100];
     let mut path_sizes = before;
     let mut path_losses = before;
-    let answer = build_in(sizes, losses, &mut path_sizes, &mut path_losses, room);
-    print_answer(answer, &path_sizes, &path_losses, &before, &before);
+    if 4100 < room {
+        return;
+    }
+    let made = build::build(
+        sizes,
+        losses,
+        &mut path_sizes[0..room],
+        &mut path_losses[0..room],
+    );
+    print_answer(answer_of(made), &path_sizes, &path_losses, &before, &before);
 }
 
 // A selection at the penalty p / q from a lent path, and a list of its breakpoints in as many places as there can be.
