@@ -1,5 +1,5 @@
-// The figures of 01 for signals, the limits of each call, and the causes of its refusals, each alone and two together, where
-// the order of 01 decides. A line shows the first samples, what is lent, with the causes that hold, 0 for none, and what is
+// The figures of the rules for signals, the limits of each call, and the causes of its refusals, each alone and two together, where
+// the order of the rules decides. A line shows the first samples, what is lent, with the causes that hold, 0 for none, and what is
 // answered. Then come the number of scratch bytes that are not zero after the call, of all 32,000, the number of those that it
 // changed and of the places of each other buffer that it changed, and the first places of each buffer after it, with `_` for one
 // that is as before.
@@ -210,7 +210,7 @@ fn print_outcome(made: Outcome) {
     print_path(made);
 }
 
-// The figures of 01, and after the largest signal one sample more.
+// The figures of the rules, and after the largest signal one sample more.
 fn run_known() {
     Case::usual().split(0, 0);
     Case::usual().with_penalty(1, 2).split(0, 0);

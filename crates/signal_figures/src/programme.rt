@@ -1,5 +1,5 @@
 // The least loss of each number of segments by a plain dynamic programme, which tries every start of a last segment. It follows
-// the rules of 01 alone, and nothing here is taken from the calls that are tested. The cell for k segments over the first j
+// the rules alone, and nothing here is taken from the calls that are tested. The cell for k segments over the first j
 // samples is at place 513 k + j of a table. Samples and levels are raised.
 
 use crate::segmentation;

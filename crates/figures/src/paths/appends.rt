@@ -1,4 +1,4 @@
-// The limits of an append, and the causes of its refusals, each alone and two together, where the order of 01 decides.
+// The limits of an append, and the causes of its refusals, each alone and two together, where the order of the rules decides.
 
 use crate::paths::calls;
 use testing::text::print;

@@ -1,4 +1,4 @@
-// The causes of a build's refusals, each alone and two together, where the order of 01 decides.
+// The causes of a build's refusals, each alone and two together, where the order of the rules decides.
 
 use crate::paths::calls;
 use testing::text::print;

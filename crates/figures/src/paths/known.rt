@@ -1,4 +1,4 @@
-// The figures of 01 for a path that is built: its entries, its breakpoints and the tests made.
+// The figures of the rules for a path that is built: its entries, its breakpoints and the tests made.
 
 use testing::answer::tests_of;
 use testing::text::print;
