@@ -1,5 +1,5 @@
 -- `path::try_model` meets its contract: an empty path keeps nothing, and any other is ready for the scan.
-use mathlib.Core.Path.{_≡_, ap, sym, _∙_}
+use mathlib.Core.Path.{_≡_, ap, sym}
 use Prim.Native.Nat.{_+_}
 use native.Mathlib.Omega.{arith}
 use lib.ListN.{length}
