@@ -9,7 +9,6 @@ use Rattle.path.specs.Inner.{tallyOf}
 use Rattle.path.proofs.Paths.{keeps-nothing}
 use Rattle.path.proofs.Order.{acceptable, scannable}
 use borrow.Author.Needs.{needs}
-use borrow.Author.Needs.{needs}
 use Rattle.path.proofs.try_model.Statement.{statement}
 use Rattle.path.proofs.try_model.Tie as tie
 

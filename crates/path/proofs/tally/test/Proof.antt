@@ -5,7 +5,6 @@ use native.Mathlib.Omega.{arith}
 use Rattle.path.specs.Model.{model, modelAt}
 use Rattle.path.proofs.Paths.{first-holds, later-holds}
 use borrow.Author.Needs.{needs}
-use borrow.Author.Needs.{needs}
 use Rattle.path.proofs.tally.test.Statement.{statement}
 use Rattle.path.proofs.tally.test.Tie as tie
 
