@@ -1,5 +1,5 @@
 -- One step of a build: model i joins the path in the two buffers, be it pushed or appended.
-use mathlib.Core.Path.{_≡_, refl, ap, subst, _∙_}
+use mathlib.Core.Path.{_≡_, refl, ap, _∙_}
 use mathlib.Core.List.{List, _∷_}
 use Prim.Native.Nat.{ℕ, zero, suc, _+_, _^_, _≤_, _<_}
 use native.Mathlib.Numerals.{add-one}
@@ -11,7 +11,7 @@ use Rattle.path.specs.Refusal.{refusalOf, check, validPath, modelChecks}
 use Rattle.path.specs.Inner.{Held}
 use Rattle.path.proofs.Order.{Passes}
 use Rattle.path.proofs.Updates.{kept-few}
-use Rattle.path.proofs.Held.{held-none, held-length, held-may-try, kept-within, held-push}
+use Rattle.path.proofs.Held.{held-none, held-may-try, kept-within, held-push}
 use Rattle.build.specs.Build.{built, builtTests}
 use Rattle.build.specs.Inner.{Buildable, BuiltIn}
 use Rattle.build.proofs.Lists.{model-ready}

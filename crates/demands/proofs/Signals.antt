@@ -18,7 +18,7 @@ use Rattle.select.specs.Penalty.{validPenalty, cost}
 use Rattle.select.specs.Select.{selectOf}
 use Rattle.select.specs.declared.SelectResult.{SelectResult}
 use Rattle.hull.specs.Claims.{SmallestCheapest, AlwaysSelectsSmallest}
-use Rattle.hull.proofs.Winners.{Sound, winners-with-skipped}
+use Rattle.hull.proofs.Winners.{winners-with-skipped}
 use Rattle.hull.proofs.Selections.{always-selects-smallest}
 use Rattle.hull.proofs.Orders.{refuses-by-checks, never-eight}
 use Rattle.hull.proofs.Penalties.{same-penalty-claim}
@@ -34,7 +34,7 @@ use Rattle.signal.specs.Inner.{Solvable}
 use Rattle.signal.proofs.Inputs.{path-solvable, Splittable, splittable}
 use Rattle.signal.proofs.Cases.{path-refusal, path-accepted, split-refusal, split-accepted}
 use Rattle.signal.proofs.Paths.{path-some, path-few, path-ordered}
-use Rattle.signal.proofs.Selections.{PathIn, Entry, entry, path-alone}
+use Rattle.signal.proofs.Selections.{Entry, entry, path-alone}
 use Rattle.demands.specs.Signals.{GivesCheapest, LeavesPath, SplitClaim, SignalPathClaim, SplitPathClaim, SameSplitClaim, SignalRefusals}
 use Rattle.demands.proofs.Tried.{appended, path-sound, tried-or-skipped, size-listed}
 

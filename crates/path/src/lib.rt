@@ -8,7 +8,7 @@ ghost use lib.ListN.{length, take, replicate};
 ghost use Rattle.path.specs.Model.{model, pathOf};
 ghost use Rattle.path.specs.Refusal.{inRange, follows, ordered, validPath, maxModels, roomFor, check, modelChecks, refusalOf};
 ghost use Rattle.path.specs.Buffer.{overwrittenTo};
-ghost use Rattle.path.specs.Append.{pathOutcome, pathRefused, appendOf};
+ghost use Rattle.path.specs.Append.{pathOutcome, appendOf};
 ghost use Rattle.path.specs.Inner.{Scannable, keptOf, tallyOf};
 
 pub mod tally;

@@ -9,7 +9,7 @@ use native.Mathlib.Omega.{arith}
 use lib.Dec.{ltb, leb}
 use borrow.Author.Tests.{lt-ltb, le-ltb, leb-true, le-leb}
 use Rattle.path.specs.Model.{Model, modelAt}
-use Rattle.path.specs.Refusal.{Check, check, refusalOf, inRange, validPath}
+use Rattle.path.specs.Refusal.{check, refusalOf, inRange, validPath}
 use Rattle.path.proofs.Checks.{both, passed, refuses, accepts, refusal-is}
 use Rattle.path.proofs.Order.{within, valid-parts, last-in-range, ordered-front}
 use Rattle.select.specs.Penalty.{validPenalty, maxNumerator, maxDenominator, cost}

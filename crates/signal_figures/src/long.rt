@@ -21,7 +21,7 @@ use testing::number::plus;
 use testing::number::times;
 use testing::random::next;
 use testing::random::start;
-use testing::sample::lower;
+use testing::sample::lower_all;
 use testing::search::cheapest;
 
 // The number of kinds, and of signals.
@@ -77,15 +77,6 @@ fn draw_samples(kind: u64, seed: u64, raised: &mut [u64]) {
         before = sample(kind, i, x, before);
         put(raised, i as usize, before);
     }
-}
-
-// The samples of 512 that are raised.
-fn lower_all(raised: &[u64]) -> [i16; 512] {
-    let mut samples = [0i16; 512];
-    for i in 0..512 {
-        samples[i] = lower(at(raised, i));
-    }
-    samples
 }
 
 // Compares a path call.
@@ -157,12 +148,14 @@ fn check_breakpoints(case: Case, before: Totals) -> Totals {
 // All comparisons for the first samples of a kind at a limit.
 fn check_signal(kind: u64, x: u64, count: u64, limit: u64, before: Totals) -> Totals {
     let mut raised = [0u64; 512];
+    let mut samples = [0i16; 512];
     draw_samples(kind, x, &mut raised);
+    lower_all(&raised, &mut samples);
     let found = programme::solve(&raised, count, limit);
     let least = found.least;
     let most = if limit < count { limit } else { count };
     let case = Case {
-        samples: lower_all(&raised),
+        samples: samples,
         raised: raised,
         limit: limit,
         most: most,

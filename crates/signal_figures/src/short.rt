@@ -18,7 +18,7 @@ use testing::number::plus;
 use testing::number::times;
 use testing::random::below;
 use testing::random::next;
-use testing::sample::lower;
+use testing::sample::lower_all;
 use testing::search::cheapest;
 
 // Samples of a kind are drawn from so many numbers, from the lowest on and each a step above the one before. They are raised.
@@ -174,25 +174,18 @@ fn draw_samples(kind: Kind, seed: u64, raised: &mut [u64]) -> u64 {
     x
 }
 
-// The samples of nine that are raised.
-fn lower_all(raised: &[u64]) -> [i16; 9] {
-    let mut samples = [0i16; 9];
-    for i in 0..9 {
-        samples[i] = lower(at(raised, i));
-    }
-    samples
-}
-
 // Compares the random signal i.
 fn check_next(before: Progress, i: u64) -> Progress {
     let totals = before.totals;
     let x = next(before.x);
     let mut raised = [0u64; 9];
+    let mut samples = [0i16; 9];
     let last = draw_samples(kind_at(i), x, &mut raised);
+    lower_all(&raised, &mut samples);
     let found = every::find(&raised, x % 9 + 1);
     Progress {
         x: last,
-        totals: check_signal(lower_all(&raised), found, totals),
+        totals: check_signal(samples, found, totals),
     }
 }
 

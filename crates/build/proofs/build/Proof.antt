@@ -10,7 +10,6 @@ use Rattle.build.specs.Inner.{Buildable}
 use Rattle.build.proofs.Lists.{buildable}
 use Rattle.build.proofs.Cases.{build-refused, build-done}
 use borrow.Author.Needs.{needs}
-use borrow.Author.Needs.{needs}
 use Rattle.build.proofs.build.Statement.{statement}
 use Rattle.build.proofs.build.Tie as tie
 

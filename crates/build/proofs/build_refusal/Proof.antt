@@ -6,7 +6,6 @@ use Rattle.path.specs.Refusal.{refusalOf}
 use Rattle.build.specs.Build.{checksOf, buildChecks}
 use Rattle.build.proofs.Cases.{no-models, too-many, bad-list, no-room, all-pass}
 use borrow.Author.Needs.{needs}
-use borrow.Author.Needs.{needs}
 use Rattle.build.proofs.build_refusal.Statement.{statement}
 use Rattle.build.proofs.build_refusal.Tie as tie
 

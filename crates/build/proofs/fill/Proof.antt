@@ -1,6 +1,6 @@
 -- `build::fill` meets its contract. The loop's invariant: the buffers hold the path of the first i models.
 use mathlib.Core.Path.{_≡_, ap, sym, subst}
-use Prim.Native.Nat.{ℕ, _+_, _-_, _≤_}
+use Prim.Native.Nat.{ℕ, _-_, _≤_}
 use native.Mathlib.Omega.{arith}
 use lib.ListN.{length}
 use Rattle.path.specs.declared.Kept.{Kept}

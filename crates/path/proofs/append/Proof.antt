@@ -1,5 +1,6 @@
 -- `path::append` meets its contract: refused for its input, refused for want of room, or accepted, with both lists stored.
-use mathlib.Core.Path.{ap, sym, _∙_}
+use mathlib.Core.Path.{_≡_, ap, sym, _∙_}
+use mathlib.Core.Bool.{true}
 use mathlib.Core.List.{[], _∷_}
 use Prim.Native.Nat.{_+_}
 use native.Mathlib.Omega.{arith}
@@ -8,16 +9,36 @@ use borrow.Author.Tests.{not-true, not-false}
 use Rattle.path.specs.declared.Kept.{Kept}
 use Rattle.path.specs.declared.PathResult.{PathResult}
 use Rattle.path.specs.declared.tally.Tally.{Tally}
-use Rattle.path.specs.Model.{model}
-use Rattle.path.specs.Refusal.{maxModels}
+use Rattle.path.specs.Model.{model, pathOf}
+use Rattle.path.specs.Refusal.{check, refusalOf, maxModels, pathRoom, validPath, modelChecks}
+use Rattle.path.specs.Update.{kept}
 use Rattle.path.specs.Append.{pathOutcome}
-use Rattle.path.proofs.Checks.{room-parts}
-use Rattle.path.proofs.Order.{acceptable}
+use Rattle.path.proofs.Checks.{AtLeast, room-parts}
+use Rattle.path.proofs.Order.{Acceptable, acceptable}
 use Rattle.path.proofs.Cases.{input-refused, kept-small, room-refused, accepted}
-use borrow.Author.Needs.{needs}
 use borrow.Author.Needs.{needs}
 use Rattle.path.proofs.append.Statement.{statement}
 use Rattle.path.proofs.append.Tie as tie
+
+-- The input passes its checks.
+passes : (c : tie.Else1) → refusalOf (check 8 (validPath (c .before .before .before .before .before .before .args .sizes .now) (c .before .before .before .before .before .before .args .losses .now) (c .before .before .before .before .before .before .args .entries)) ∷ modelChecks (pathOf (c .before .before .before .before .before .before .args .sizes .now) (c .before .before .before .before .before .before .args .losses .now) (c .before .before .before .before .before .before .args .entries)) (model (c .before .before .before .before .before .before .args .size) (c .before .before .before .before .before .before .args .loss))) ≡ 0
+passes c = sym (c .before .input-refusal .ensures) ∙ c .if1 .left
+
+fits : (c : tie.Else1) → Acceptable (c .before .before .before .before .before .before .args .sizes .now) (c .before .before .before .before .before .before .args .losses .now) (c .before .before .before .before .before .before .args .entries) (model (c .before .before .before .before .before .before .args .size) (c .before .before .before .before .before .before .args .loss))
+fits c = let a = c .before .before .before .before .before .before .args in acceptable (a .sizes .now) (a .losses .now) (a .entries) (model (a .size) (a .loss)) (passes c)
+
+-- So many entries stay.
+stay : (c : tie.After-try-model) → c .try-model .result .entries ≡ length (kept (pathOf (c .before .before .before .before .before .before .before .before .before .before .args .sizes .now) (c .before .before .before .before .before .before .before .before .before .before .args .losses .now) (c .before .before .before .before .before .before .before .before .before .before .args .entries)) (model (c .before .before .before .before .before .before .before .before .before .before .args .size) (c .before .before .before .before .before .before .before .before .before .before .args .loss)))
+stay c = ap (λ (x : Kept). x .entries) (c .try-model .ensures)
+
+-- There is room for them and one more.
+enough : (c : tie.Else2) → pathRoom (c .before .before .before .before .before .before .before .before .before .before .before .before .args .sizes .now) (c .before .before .before .before .before .before .before .before .before .before .before .before .args .losses .now) (c .before .before .try-model .result .entries + 1) ≡ true
+enough c = sym (c .before .path-has-room .ensures) ∙ not-false _ (c .if2 .left)
+
+room : (c : tie.Else2) → AtLeast (c .before .before .try-model .result .entries + 1) (length (c .before .before .before .before .before .before .before .before .before .before .before .before .args .sizes .now) ∷ length (c .before .before .before .before .before .before .before .before .before .before .before .before .args .losses .now) ∷ maxModels ∷ [])
+room c =
+    let a = c .before .before .before .before .before .before .before .before .before .before .before .before .args in
+    room-parts (c .before .before .try-model .result .entries + 1) (length (a .sizes .now) ∷ length (a .losses .now) ∷ maxModels ∷ []) (enough c)
 
 input-refusal-requires : tie.Need-input-refusal-requires
 input-refusal-requires c κs = search needs
@@ -42,14 +63,12 @@ none-requires : tie.Need-none-requires
 none-requires c κs = search needs
 
 try-model-requires : tie.Need-try-model-requires
-try-model-requires c κs = (sym (c .before .before .before .before .input-refusal .ensures) ∙ c .before .before .before .if1 .left, omega (arith, ap (λ (x : Tally). x .count) (c .none .ensures)))
+try-model-requires c κs = (passes (c .before .before .before), omega (arith, ap (λ (x : Tally). x .count) (c .none .ensures)))
 
 add-count : tie.Need-add-count
 add-count c =
     let a = c .before .before .before .before .before .before .before .before .before .before .args in
-    let f = c .try-model in
-    let ok = acceptable (a .sizes .now) (a .losses .now) (a .entries) (model (a .size) (a .loss)) (sym (c .before .before .before .before .before .input-refusal .ensures) ∙ c .before .before .before .before .if1 .left) in
-    omega (arith, ok .valid .few, kept-small (a .sizes .now) (a .losses .now) (a .entries) (model (a .size) (a .loss)) (sym (c .before .before .before .before .before .input-refusal .ensures) ∙ c .before .before .before .before .if1 .left) (f .result .entries) (ap (λ (x : Kept). x .entries) (f .ensures)))
+    omega (arith, fits (c .before .before .before .before) .valid .few, kept-small (a .sizes .now) (a .losses .now) (a .entries) (model (a .size) (a .loss)) (passes (c .before .before .before .before)) (c .try-model .result .entries) (stay c))
 
 path-has-room-requires : tie.Need-path-has-room-requires
 path-has-room-requires c κs = search needs
@@ -68,21 +87,13 @@ returns-2 c =
     let a = c .before .before .before .before .before .before .before .before .before .before .before .before .before .args in
     let f = c .before .before .before .try-model in
     ap (λ (x : PathResult). pathOutcome x (a .sizes .now) (a .losses .now)) (c .refuse2 .ensures)
-    ∙ room-refused (a .sizes .now) (a .losses .now) (a .entries) (model (a .size) (a .loss)) (sym (c .before .before .before .before .before .before .before .before .input-refusal .ensures) ∙ c .before .before .before .before .before .before .before .if1 .left) (f .result .entries) (ap (λ (x : Kept). x .entries) (f .ensures)) (sym (c .before .before .path-has-room .ensures) ∙ not-true _ (c .before .if2 .taken))
+    ∙ room-refused (a .sizes .now) (a .losses .now) (a .entries) (model (a .size) (a .loss)) (passes (c .before .before .before .before .before .before .before)) (f .result .entries) (stay (c .before .before .before)) (sym (c .before .before .path-has-room .ensures) ∙ not-true _ (c .before .if2 .taken))
 
 store-requires : tie.Need-store-requires
-store-requires c κs =
-    let a = c .before .before .before .before .before .before .before .before .before .before .before .before .before .args in
-    let room = room-parts (c .before .before .before .try-model .result .entries + 1) (length (a .sizes .now) ∷ length (a .losses .now) ∷ maxModels ∷ []) (sym (c .before .before .path-has-room .ensures) ∙ not-false _ (c .before .if2 .left)) in
-    let ok = acceptable (a .sizes .now) (a .losses .now) (a .entries) (model (a .size) (a .loss)) (sym (c .before .before .before .before .before .before .before .before .input-refusal .ensures) ∙ c .before .before .before .before .before .before .before .if1 .left) in
-    (omega (arith, room .0), ok .valid .in-sizes)
+store-requires c κs = (omega (arith, room (c .before) .0), fits (c .before .before .before .before .before .before .before) .valid .in-sizes)
 
 store-requires-2 : tie.Need-store-requires-2
-store-requires-2 c κs =
-    let a = c .before .before .before .before .before .before .before .before .before .before .before .before .before .before .before .before .before .args in
-    let room = room-parts (c .before .before .before .before .before .before .before .try-model .result .entries + 1) (length (a .sizes .now) ∷ length (a .losses .now) ∷ maxModels ∷ []) (sym (c .before .before .before .before .before .before .path-has-room .ensures) ∙ not-false _ (c .before .before .before .before .before .if2 .left)) in
-    let ok = acceptable (a .sizes .now) (a .losses .now) (a .entries) (model (a .size) (a .loss)) (sym (c .before .before .before .before .before .before .before .before .before .before .before .before .input-refusal .ensures) ∙ c .before .before .before .before .before .before .before .before .before .before .before .if1 .left) in
-    (omega (arith, room .1 .0), ok .valid .in-losses)
+store-requires-2 c κs = (omega (arith, room (c .before .before .before .before .before) .1 .0), fits (c .before .before .before .before .before .before .before .before .before .before .before) .valid .in-losses)
 
 same-length-5 : tie.Need-same-length-5
 same-length-5 c = search needs
@@ -95,7 +106,7 @@ returns-3 c =
     let a = c .before .before .before .before .before .before .before .before .before .before .before .before .before .before .before .before .before .before .before .before .before .args in
     let f = c .before .before .before .before .before .before .before .before .before .before .before .try-model in
     let none = ap (λ (x : Tally). x .count) (c .before .before .before .before .before .before .before .before .before .before .before .before .none .ensures) in
-    accepted (a .sizes .now) (a .losses .now) (a .entries) (model (a .size) (a .loss)) (sym (c .before .before .before .before .before .before .before .before .before .before .before .before .before .before .before .before .input-refusal .ensures) ∙ c .before .before .before .before .before .before .before .before .before .before .before .before .before .before .before .if1 .left) (f .result .entries) (ap (λ (x : Kept). x .entries) (f .ensures)) (sym (c .before .before .before .before .before .before .before .before .before .before .path-has-room .ensures) ∙ not-false _ (c .before .before .before .before .before .before .before .before .before .if2 .left)) (f .result .tests .count) (c .before .before .before .before .before .before .before .store .last .0) (c .before .before .before .store2 .last .0) (omega (arith, ap (λ (x : Kept). x .tests .count) (f .ensures), none)) (c .before .before .before .before .before .before .before .store .ensures) (c .before .before .before .store2 .ensures)
+    accepted (a .sizes .now) (a .losses .now) (a .entries) (model (a .size) (a .loss)) (passes (c .before .before .before .before .before .before .before .before .before .before .before .before .before .before .before)) (f .result .entries) (stay (c .before .before .before .before .before .before .before .before .before .before .before)) (enough (c .before .before .before .before .before .before .before .before .before)) (f .result .tests .count) (c .before .before .before .before .before .before .before .store .last .0) (c .before .before .before .store2 .last .0) (omega (arith, ap (λ (x : Kept). x .tests .count) (f .ensures), none)) (c .before .before .before .before .before .before .before .store .ensures) (c .before .before .before .store2 .ensures)
 
 pub append-spec : {M : Type 1} → statement M
 append-spec =

@@ -6,7 +6,6 @@ use borrow.Author.Tests.{le-leb, lt-leb, not-true, not-false}
 use Rattle.path.specs.Refusal.{maxModels, roomFor}
 use Rattle.path.proofs.Checks.{room-append}
 use borrow.Author.Needs.{needs}
-use borrow.Author.Needs.{needs}
 use Rattle.path.proofs.path_has_room.Statement.{statement}
 use Rattle.path.proofs.path_has_room.Tie as tie
 

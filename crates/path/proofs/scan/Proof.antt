@@ -1,12 +1,12 @@
 -- `path::scan` meets its contract. The loop's invariant: the first i entries keep what the whole path keeps, and the tests made so
 -- far with those still to come are the path's.
 use mathlib.Core.Path.{_≡_, refl, ap, sym, _∙_}
-use Prim.Native.Nat.{suc, _+_, _-_, _≤_}
+use Prim.Native.Nat.{_+_, _-_, _≤_}
 use native.Mathlib.Omega.{arith}
 use lib.ListN.{length}
-use Rattle.path.specs.Model.{model, modelAt, pathOf}
-use Rattle.path.specs.Update.{holds, kept, testsMade}
-use Rattle.path.specs.Inner.{Scannable, tallyOf}
+use Rattle.path.specs.Model.{model, pathOf}
+use Rattle.path.specs.Update.{kept, testsMade}
+use Rattle.path.specs.Inner.{tallyOf}
 use Rattle.path.specs.declared.tally.Tally.{Tally}
 use Rattle.path.proofs.Paths.{keeps-all, drops-last, first-not-dropped}
 use Rattle.path.proofs.scan.Statement.{statement}

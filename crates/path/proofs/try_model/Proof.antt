@@ -1,5 +1,5 @@
 -- `path::try_model` meets its contract: an empty path keeps nothing, and any other is ready for the scan.
-use mathlib.Core.Path.{_≡_, ap, sym, _∙_}
+use mathlib.Core.Path.{_≡_, ap, sym}
 use Prim.Native.Nat.{_+_}
 use native.Mathlib.Omega.{arith}
 use lib.ListN.{length}
@@ -8,7 +8,6 @@ use Rattle.path.specs.Update.{kept, testsMade}
 use Rattle.path.specs.Inner.{tallyOf}
 use Rattle.path.proofs.Paths.{keeps-nothing}
 use Rattle.path.proofs.Order.{acceptable, scannable}
-use borrow.Author.Needs.{needs}
 use borrow.Author.Needs.{needs}
 use Rattle.path.proofs.try_model.Statement.{statement}
 use Rattle.path.proofs.try_model.Tie as tie

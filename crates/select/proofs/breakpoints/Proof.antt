@@ -2,7 +2,6 @@
 use mathlib.Core.Path.{sym, _∙_}
 use Rattle.select.proofs.Listings.{breakpoints-refused, listable, breakpoints-done}
 use borrow.Author.Needs.{needs}
-use borrow.Author.Needs.{needs}
 use Rattle.select.proofs.breakpoints.Statement.{statement}
 use Rattle.select.proofs.breakpoints.Tie as tie
 

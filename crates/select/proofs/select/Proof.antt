@@ -9,7 +9,7 @@ use borrow.Author.Needs.{needs}
 use Rattle.select.proofs.select.Statement.{statement}
 use Rattle.select.proofs.select.Tie as tie
 
--- the walk ends at an entry of both lists
+-- The walk ends at an entry of both lists.
 place : (c : tie.After-walk) → (c .walk .result < length (c .before .before .before .before .before .args .sizes .now)) × (c .walk .result < length (c .before .before .before .before .before .args .losses .now))
 place c =
     let a = c .before .before .before .before .before .args in

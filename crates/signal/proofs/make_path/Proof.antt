@@ -7,7 +7,6 @@ use borrow.Rule.Slice.PartMut.{putMid, mid-len}
 use Rattle.signal.specs.SignalPath.{pathBuffers}
 use Rattle.signal.proofs.Paths.{solved}
 use borrow.Author.Needs.{needs}
-use borrow.Author.Needs.{needs}
 use Rattle.signal.proofs.make_path.Statement.{statement}
 use Rattle.signal.proofs.make_path.Tie as tie
 

@@ -5,68 +5,53 @@ use native.Mathlib.Omega.{arith}
 use Rattle.path.specs.Model.{model, modelAt}
 use Rattle.path.proofs.Paths.{first-holds, later-holds}
 use borrow.Author.Needs.{needs}
-use borrow.Author.Needs.{needs}
 use Rattle.path.proofs.tally.test.Statement.{statement}
 use Rattle.path.proofs.tally.test.Tie as tie
 
--- src/tally.rt:68:16
 add-candidate-below : tie.Need-add-candidate-below
 add-candidate-below c = search needs
 
--- src/tally.rt:71:9
 returns : tie.Need-returns
 returns c =
     let a = c .before .before .before .before .args in
     (sym (first-holds (a .sizes .now) (a .losses .now) (modelAt (a .sizes .now) (a .losses .now) (a .entries - 1)) (model (a .size) (a .loss)) (omega arith)), refl)
 
--- src/tally.rt:76:18
 sub-before : tie.Need-sub-before
 sub-before c = search needs
 
--- src/tally.rt:77:14
 sub-at : tie.Need-sub-at
 sub-at c = search needs
 
--- src/tally.rt:79:9
 mul-candidate-below : tie.Need-mul-candidate-below
 mul-candidate-below c = search needs
 
--- src/tally.rt:79:9
 shared-slice-read-candidate-below : tie.Need-shared-slice-read-candidate-below
 shared-slice-read-candidate-below c = search needs
 
--- src/tally.rt:80:9
 mul-candidate-below-2 : tie.Need-mul-candidate-below-2
 mul-candidate-below-2 c = search needs
 
--- src/tally.rt:80:9
 shared-slice-read-candidate-below-2 : tie.Need-shared-slice-read-candidate-below-2
 shared-slice-read-candidate-below-2 c = search needs
 
--- src/tally.rt:81:9
 mul-candidate-below-3 : tie.Need-mul-candidate-below-3
 mul-candidate-below-3 c = search needs
 
--- src/tally.rt:81:9
 shared-slice-read-candidate-below-3 : tie.Need-shared-slice-read-candidate-below-3
 shared-slice-read-candidate-below-3 c = search needs
 
--- src/tally.rt:82:9
 mul-candidate-below-4 : tie.Need-mul-candidate-below-4
 mul-candidate-below-4 c = search needs
 
--- src/tally.rt:82:9
 shared-slice-read-candidate-below-4 : tie.Need-shared-slice-read-candidate-below-4
 shared-slice-read-candidate-below-4 c = search needs
 
--- src/tally.rt:78:9
 candidate-below-requires : tie.Need-candidate-below-requires
 candidate-below-requires c κs =
     let n = c .before .before .before .before .before .before .before .before .args .entries in
     let e : suc (n - 2) ≡ n - 1 = omega arith in
     rw (← e) (c .before .before .before .before .before .before .before .before .pre .near (n - 2) (omega arith))
 
--- src/tally.rt:51:1
 returns-2 : tie.Need-returns-2
 returns-2 c =
     let a = c .before .before .before .before .before .before .before .before .before .args in
