@@ -65,3 +65,7 @@ front-written k bytes left items a e h = e ∙ ap (λ (j : ℕ). bytesOf k items
 -- The front of a list that is made of one value.
 pub repeated-front : {A : Type 0} (z : A) (n a : ℕ) → a ≤ n → length (take a (replicate n z)) ≡ a
 repeated-front z n a h = length-take-le a (replicate n z) (subst (λ (j : ℕ). a ≤ j) (sym (length-replicate n z)) h)
+
+-- As many places of it as the smaller of two numbers says.
+pub counted-front : {A : Type 0} (z : A) (n r m c : ℕ) → r ≡ min m c → c ≤ n → length (take r (replicate n z)) ≡ min m c
+counted-front z n r m c e h = repeated-front z n r (omega arith) ∙ e
