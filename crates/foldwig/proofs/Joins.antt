@@ -15,7 +15,7 @@ use Rattle.layout.proofs.ItemLists.{Bytes, length-items, take-items, bytes-appe
 use Rattle.foldwig.proofs.Cuts.{le-or-lt}
 
 -- A string of whole items is as long as its items.
-pub whole-length : (k : ℕ) (bytes : List ℕ) → wholeItems k bytes ≡ true → length bytes ≡ k * (length bytes / k)
+whole-length : (k : ℕ) (bytes : List ℕ) → wholeItems k bytes ≡ true → length bytes ≡ k * (length bytes / k)
 whole-length k bytes h =
     omega (arith, eqb-true (length bytes % k) 0 h, div-add-mod' (length bytes) k, mul-comm k (length bytes / k))
 

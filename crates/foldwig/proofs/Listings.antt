@@ -1,9 +1,9 @@
 -- A listing of breakpoints: on the front of its lists, and from there to the whole of the byte strings.
 use mathlib.Core.Path.{_≡_, refl, ap, sym, subst, _∙_}
 use mathlib.Core.Bool.{Bool, true, false, _&&_}
-use mathlib.Core.Logic.{_⊎_, inl, inr, ⊎-elim}
+use mathlib.Core.Logic.{_⊎_}
 use mathlib.Core.List.{List, [], _∷_, _++_}
-use Prim.Native.Nat.{ℕ, _*_, _-_, _/_, _≤_, _<_, min}
+use Prim.Native.Nat.{ℕ, _*_, _-_, _/_, _≤_, min}
 use native.Mathlib.Omega.{arith}
 use lib.ListN.{length, take, drop, take-append-drop}
 use Rattle.layout.specs.Items.{itemsTo, itemsOf, bytesOf, wholeItems}
@@ -19,9 +19,9 @@ use Rattle.select.specs.declared.BreakpointsResult.{BreakpointsResult}
 use Rattle.select.proofs.Listings.{breakpoints-counted, breakpoints-refusal, breakpoints-refused, listable}
 use Rattle.foldwig.specs.Paths.{breakpointsInBytes, breakpointsBytesOf}
 use Rattle.foldwig.specs.PathsInner.{Holds, breakpointsOverFront}
-use Rattle.foldwig.proofs.Cuts.{le-or-lt, overwritten-cut, leb-take, same-cond, checks-cut}
+use Rattle.foldwig.proofs.Cuts.{overwritten-cut, leb-take, same-cond, checks-cut}
 use Rattle.foldwig.proofs.Joins.{counted-items, counted-joined, front-back, front-written}
-use Rattle.foldwig.proofs.PathCuts.{path-cut, few-within, valid-cut}
+use Rattle.foldwig.proofs.PathCuts.{enough-places, path-cut, few-within, valid-cut}
 
 -- An outcome with more at the end of its buffers.
 abbrev breakpointsLonger : List ℕ → List ℕ → BreakpointsOutcome → BreakpointsOutcome
@@ -108,12 +108,11 @@ module _ (s l : List ℕ) (n : ℕ) (x y : List ℕ) where
         → breakpointsOverFront d f x y (breakpointsOf (itemsTo 2 s a) (itemsTo 8 l b) n (itemsTo 8 x d) (itemsTo 2 y f)) ≡ breakpointsBytesOf s l n x y
     unfolding breakpointsBytesOf
     breakpoints-bytes second bx by c a b d f ec ea eb ed ef =
-        let enough : (n ≤ c) ⊎ (maxModels ≤ c) = ⊎-elim (λ (h : maxModels ≤ n). inr (omega arith)) (λ (h : n < maxModels). inl (omega arith)) (le-or-lt maxModels n) in
         let w = both (wholeItems 2 y) (wholeItems 8 x) second in
         let o = breakpointsOf (itemsTo 2 s a) (itemsTo 8 l b) n (itemsTo 8 x d) (itemsTo 2 y f) in
         let numerators = counted-joined 8 x c d ed bx (w .1) (o .numerators) in
         let denominators = counted-joined 2 y c f ef by (w .0) (o .denominators) in
-        sym (ap breakpointsInBytes (breakpoints-cut c (itemsOf 2 s) (itemsOf 8 l) n (itemsOf 8 x) (itemsOf 2 y) enough)
+        sym (ap breakpointsInBytes (breakpoints-cut c (itemsOf 2 s) (itemsOf 8 l) n (itemsOf 8 x) (itemsOf 2 y) (enough-places n c ec))
         ∙ (λ i. breakpointsInBytes (breakpointsLonger (drop c (itemsOf 8 x)) (drop c (itemsOf 2 y)) (breakpointsOf (counted-items 2 s c a ea i) (counted-items 8 l c b eb i) n (counted-items 8 x c d ed i) (counted-items 2 y c f ef i))))
         ∙ (λ i. record { refusal = o .refusal; count = o .count; numerators = numerators i; denominators = denominators i }))
         ∙ accepts _ (breakpointsRefused x y) _ (check-passes (check 11 (wholeItems 2 s && wholeItems 8 l)) _ first ∙ last-passes (check 11 (wholeItems 2 y && wholeItems 8 x)) second)

@@ -4,7 +4,7 @@ use mathlib.Core.Path.{_≡_, refl, ap, sym, _∙_}
 use mathlib.Core.Bool.{Bool, true, false, _&&_}
 use mathlib.Core.Logic.{_⊎_, inl, inr, ⊎-elim}
 use mathlib.Core.List.{List, [], _∷_, _++_}
-use Prim.Native.Nat.{ℕ, zero, suc, _+_, _-_, _≤_, _<_}
+use Prim.Native.Nat.{ℕ, zero, suc, _+_, _-_, _≤_, _<_, min}
 use native.Mathlib.Omega.{arith}
 use lib.Dec.{leb}
 use lib.ListN.{length, take, drop, length-take, take-append-drop}
@@ -18,8 +18,7 @@ use Rattle.path.proofs.Checks.{room-parts, room-whole}
 use Rattle.path.proofs.Order.{valid-parts}
 use Rattle.path.proofs.Updates.{kept-few}
 use Rattle.path.proofs.Cases.{appendable}
-use Rattle.build.specs.Build.{built, builtTests, countOf, listChecks, buildChecks, buildLeft, buildOf}
-use Rattle.build.proofs.Lists.{buildable}
+use Rattle.build.specs.Build.{built, builtTests, countOf, listChecks, buildChecks, buildOf}
 use Rattle.build.proofs.Cases.{build-refused, too-many}
 use Rattle.select.specs.Penalty.{validPenalty}
 use Rattle.select.specs.Select.{selectedFrom, selected, selectChecks, selectRefused, entryAt, selectOf}
@@ -42,6 +41,11 @@ left-cut path tests n c s l h m =
     let sizes = overwritten-to-cut (sizesOf path) n c s (omega (arith, length-values (λ (e : Model). e .size) path)) m in
     let losses = overwritten-to-cut (lossesOf path) n c l (omega (arith, length-values (λ (e : Model). e .loss) path)) m in
     λ i. record { refusal = 0; entries = length path; tests = tests; sizes = sizes i; losses = losses i }
+
+-- As many places as there are entries, but for those of too many, are enough.
+pub enough-places : (n c : ℕ) → c ≡ min n maxModels → (n ≤ c) ⊎ (maxModels ≤ c)
+enough-places n c e =
+    ⊎-elim (λ (h : n ≤ maxModels). inl (omega arith)) (λ (h : maxModels < n). inr (omega arith)) (le-or-lt n maxModels)
 
 -- A path of n entries, where c places are enough to see it or to see that there are too many.
 module _ (c : ℕ) (s l : List ℕ) (n : ℕ) where

@@ -2,11 +2,10 @@
 -- calls leave what their definitions say.
 use mathlib.Core.Path.{_≡_, ap, sym, subst, _∙_}
 use mathlib.Core.Bool.{true, false, _&&_}
-use mathlib.Core.Logic.{_⊎_, inl, inr, ⊎-elim}
-use mathlib.Core.List.{List, [], _∷_, _++_}
-use Prim.Native.Nat.{ℕ, _+_, _*_, _/_, _≤_, _<_, min}
+use mathlib.Core.List.{List, [], _++_}
+use Prim.Native.Nat.{ℕ, suc, _+_, _*_, _-_, _/_, min}
 use native.Mathlib.Omega.{arith}
-use lib.ListN.{length, take, drop}
+use lib.ListN.{length, drop}
 use Rattle.layout.specs.Items.{itemsTo, itemsOf, bytesOf, wholeItems}
 use Rattle.layout.proofs.ItemLists.{Bytes}
 use Rattle.path.specs.Model.{Model}
@@ -21,9 +20,8 @@ use Rattle.build.proofs.Cases.{build-refusal, build-refused}
 use Rattle.select.specs.Select.{selectOf, selectRefused}
 use Rattle.foldwig.specs.Paths.{pathInBytes, appendBytesOf, buildBytesOf, selectBytesOf}
 use Rattle.foldwig.specs.PathsInner.{Holds, pathOverFront}
-use Rattle.foldwig.proofs.Cuts.{le-or-lt}
 use Rattle.foldwig.proofs.Joins.{counted-items, counted-joined, front-back, front-written}
-use Rattle.foldwig.proofs.PathCuts.{pathLonger, append-cut, select-cut, build-cut}
+use Rattle.foldwig.proofs.PathCuts.{pathLonger, enough-places, append-cut, select-cut, build-cut}
 
 -- What an inner function leaves that made a call on two lists.
 module _ (s l : List ℕ) (a b : ℕ) (o : PathOutcome) (made : PathResult) (s' l' : List ℕ) (e : pathOutcome made s' l' ≡ o) where
@@ -71,16 +69,15 @@ module _ (s l : List ℕ) (n : ℕ) (m : Model) where
   unfolding appendBytesOf
   append-off-layout h = refuses _ (pathRefused s l) _ 11 (sym (check-fails (check 11 (wholeItems 2 s && wholeItems 8 l)) [] h)) (λ z. omega arith)
 
-  pub append-bytes : Bytes s → Bytes l → (wholeItems 2 s && wholeItems 8 l) ≡ true → (c a b : ℕ) → c ≡ min n 4095 + 1 → a ≡ min (length s / 2) c → b ≡ min (length l / 8) c
+  pub append-bytes : Bytes s → Bytes l → (wholeItems 2 s && wholeItems 8 l) ≡ true → (c a b : ℕ) → c ≡ min n (maxModels - 1) + 1 → a ≡ min (length s / 2) c → b ≡ min (length l / 8) c
       → pathOverFront a b s l (appendOf (itemsTo 2 s a) (itemsTo 8 l b) n m) ≡ appendBytesOf s l n m
   unfolding appendBytesOf
   append-bytes bs bl whole c a b ec ea eb =
-      let enough : (n < c) ⊎ (maxModels ≤ c) = ⊎-elim (λ (h : maxModels ≤ n). inr (omega arith)) (λ (h : n < maxModels). inl (omega arith)) (le-or-lt maxModels n) in
       let sizes = sym (counted-items 2 s c a ea) in
       let losses = sym (counted-items 8 l c b eb) in
       sym (path-joined s l c a b bs bl whole ea eb (appendOf (itemsTo 2 s a) (itemsTo 8 l b) n m))
       ∙ (λ i. pathInBytes (pathLonger (drop c (itemsOf 2 s)) (drop c (itemsOf 8 l)) (appendOf (sizes i) (losses i) n m)))
-      ∙ ap pathInBytes (sym (append-cut c (itemsOf 2 s) (itemsOf 8 l) n m enough))
+      ∙ ap pathInBytes (sym (append-cut c (itemsOf 2 s) (itemsOf 8 l) n m (enough-places (suc n) c (omega arith))))
       ∙ accepts _ (pathRefused s l) _ (last-passes (check 11 (wholeItems 2 s && wholeItems 8 l)) whole)
 
 -- A selection from two byte strings.
@@ -93,8 +90,7 @@ module _ (s l : List ℕ) (n p q : ℕ) where
       → selectOf (itemsTo 2 s a) (itemsTo 8 l b) n p q ≡ selectBytesOf s l n p q
   unfolding selectBytesOf
   select-bytes whole c a b ec ea eb =
-      let enough : (n ≤ c) ⊎ (maxModels ≤ c) = ⊎-elim (λ (h : maxModels ≤ n). inr (omega arith)) (λ (h : n < maxModels). inl (omega arith)) (le-or-lt maxModels n) in
-      sym (select-cut c (itemsOf 2 s) (itemsOf 8 l) p q n enough ∙ (λ i. selectOf (counted-items 2 s c a ea i) (counted-items 8 l c b eb i) n p q))
+      sym (select-cut c (itemsOf 2 s) (itemsOf 8 l) p q n (enough-places n c ec) ∙ (λ i. selectOf (counted-items 2 s c a ea i) (counted-items 8 l c b eb i) n p q))
       ∙ accepts _ selectRefused _ (last-passes (check 11 (wholeItems 2 s && wholeItems 8 l)) whole)
 
 -- A build from two byte strings in two others.
