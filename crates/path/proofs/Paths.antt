@@ -30,7 +30,7 @@ length-values f [] = refl
 length-values f (x ∷ xs) = length-append (valuesOf f xs) (f x ∷ []) ∙ omega (arith, length-values f xs)
 
 -- A path goes by its places.
-path-agrees : (s l s' l' : List ℕ) (k : ℕ) → ((i : ℕ) → i < k → getD s' i 0 ≡ getD s i 0) → ((i : ℕ) → i < k → getD l' i 0 ≡ getD l i 0) → pathOf s' l' k ≡ pathOf s l k
+pub path-agrees : (s l s' l' : List ℕ) (k : ℕ) → ((i : ℕ) → i < k → getD s' i 0 ≡ getD s i 0) → ((i : ℕ) → i < k → getD l' i 0 ≡ getD l i 0) → pathOf s' l' k ≡ pathOf s l k
 unfolding pathOf
 path-agrees s l s' l' zero f g = refl
 path-agrees s l s' l' (suc k) f g =

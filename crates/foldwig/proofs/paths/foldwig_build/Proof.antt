@@ -1,0 +1,132 @@
+-- `foldwig::paths::foldwig_build` meets its contract: refused with 11, or the build on the front of the four strings.
+use mathlib.Core.Path.{sym, _∙_}
+use Prim.Native.Nat.{ℕ}
+use native.Mathlib.Omega.{arith}
+use borrow.Author.Tests.{not-true, not-false}
+use Rattle.foldwig.proofs.Joins.{repeated-front, counted-front}
+use Rattle.foldwig.proofs.PathJoins.{refused-eleven, build-off-layout, path-off-layout, build-bytes}
+use borrow.Author.Needs.{needs}
+use Rattle.foldwig.proofs.paths.foldwig_build.Statement.{statement}
+use Rattle.foldwig.proofs.paths.foldwig_build.Tie as tie
+
+whole-items-requires : tie.Need-whole-items-requires
+whole-items-requires c κs = search needs
+
+refuse-requires : tie.Need-refuse-requires
+refuse-requires c κs = search needs
+
+returns : tie.Need-returns
+returns c =
+    let a = c .before .before .before .before .before .before .before .args in
+    refused-eleven (c .refuse .result) (a .path-sizes .now) (a .path-losses .now) (c .refuse .ensures)
+    ∙ build-off-layout (a .sizes .now) (a .losses .now) (a .path-sizes .now) (a .path-losses .now) (sym (c .before .before .whole-items .ensures) ∙ not-true _ (c .before .if1 .taken))
+
+whole-items-requires-2 : tie.Need-whole-items-requires-2
+whole-items-requires-2 c κs = search needs
+
+refuse-requires-2 : tie.Need-refuse-requires-2
+refuse-requires-2 c κs = search needs
+
+returns-2 : tie.Need-returns-2
+returns-2 c =
+    let a = c .before .before .before .before .before .before .before .before .before .args in
+    refused-eleven (c .refuse2 .result) (a .path-sizes .now) (a .path-losses .now) (c .refuse2 .ensures)
+    ∙ path-off-layout (a .sizes .now) (a .losses .now) (a .path-sizes .now) (a .path-losses .now) (sym (c .before .before .before .before .whole-items .ensures) ∙ not-false _ (c .before .before .before .if1 .left)) (sym (c .before .before .whole-items2 .ensures) ∙ not-true _ (c .before .if2 .taken))
+
+smaller-requires : tie.Need-smaller-requires
+smaller-requires c κs = search needs
+
+smaller-requires-2 : tie.Need-smaller-requires-2
+smaller-requires-2 c κs = search needs
+
+smaller-requires-3 : tie.Need-smaller-requires-3
+smaller-requires-3 c κs = search needs
+
+smaller-requires-4 : tie.Need-smaller-requires-4
+smaller-requires-4 c κs = search needs
+
+array-borrow-prefix-size-items : tie.Need-array-borrow-prefix-size-items
+array-borrow-prefix-size-items c = search needs
+
+slice-aggregate-build-items : tie.Need-slice-aggregate-build-items
+slice-aggregate-build-items c = sym (repeated-front {A = ℕ} 0 4097 (c .before .before .before .before .before .before .smaller .result) (omega (arith, c .before .before .before .before .before .before .smaller .ensures)))
+
+array-borrow-prefix-loss-items : tie.Need-array-borrow-prefix-loss-items
+array-borrow-prefix-loss-items c = search needs
+
+slice-aggregate-build-items-2 : tie.Need-slice-aggregate-build-items-2
+slice-aggregate-build-items-2 c = sym (repeated-front {A = ℕ} 0 4097 (c .before .before .before .before .before .before .smaller2 .result) (omega (arith, c .before .before .before .before .before .before .smaller2 .ensures)))
+
+array-borrow-prefix-path-size-items : tie.Need-array-borrow-prefix-path-size-items
+array-borrow-prefix-path-size-items c = search needs
+
+slice-aggregate-build-items-3 : tie.Need-slice-aggregate-build-items-3
+slice-aggregate-build-items-3 c = sym (repeated-front {A = ℕ} 0 4096 (c .before .before .before .before .before .before .smaller3 .result) (omega (arith, c .before .before .before .before .before .before .smaller3 .ensures)))
+
+array-borrow-prefix-path-loss-items : tie.Need-array-borrow-prefix-path-loss-items
+array-borrow-prefix-path-loss-items c = search needs
+
+slice-aggregate-build-items-4 : tie.Need-slice-aggregate-build-items-4
+slice-aggregate-build-items-4 c = sym (repeated-front {A = ℕ} 0 4096 (c .before .before .before .before .before .before .smaller4 .result) (omega (arith, c .before .before .before .before .before .before .smaller4 .ensures)))
+
+build-items-requires : tie.Need-build-items-requires
+build-items-requires c κs =
+    let x = c .before .before .before .before .before .before .before .before .before .smaller in
+    let y = c .before .before .before .before .before .before .before .before .smaller2 in
+    let s = c .before .before .before .before .before .before .before .smaller3 in
+    let l = c .before .before .before .before .before .before .smaller4 in (
+      record {
+        in-shorts = omega (arith, counted-front {A = ℕ} 0 4097 (x .result) _ _ (x .ensures) (omega arith));
+        in-longs = omega (arith, counted-front {A = ℕ} 0 4097 (y .result) _ _ (y .ensures) (omega arith));
+      },
+      record {
+        in-shorts = omega (arith, counted-front {A = ℕ} 0 4096 (s .result) _ _ (s .ensures) (omega arith));
+        in-longs = omega (arith, counted-front {A = ℕ} 0 4096 (l .result) _ _ (l .ensures) (omega arith));
+      },
+    )
+
+same-length : tie.Need-same-length
+same-length c = search needs
+
+same-length-2 : tie.Need-same-length-2
+same-length-2 c = search needs
+
+returns-3 : tie.Need-returns-3
+returns-3 c =
+    let a = c .before .before .before .before .before .before .before .before .before .before .before .before .before .before .before .before .before .before .before .before .before .before .before .before .before .before .before .args in
+    let x = c .before .before .before .before .before .before .before .before .before .before .before .before .before .before .before .before .before .before .smaller in
+    let y = c .before .before .before .before .before .before .before .before .before .before .before .before .before .before .before .before .before .smaller2 in
+    let s = c .before .before .before .before .before .before .before .before .before .before .before .before .before .before .before .before .smaller3 in
+    let l = c .before .before .before .before .before .before .before .before .before .before .before .before .before .before .before .smaller4 in
+    c .before .before .before .before .before .before .before .before .build-items .ensures
+    ∙ build-bytes (a .sizes .now) (a .losses .now) (a .path-sizes .now) (a .path-losses .now) (sym (c .before .before .before .before .before .before .before .before .before .before .before .before .before .before .before .before .before .before .before .before .before .before .whole-items .ensures) ∙ not-false _ (c .before .before .before .before .before .before .before .before .before .before .before .before .before .before .before .before .before .before .before .before .before .if1 .left)) (sym (c .before .before .before .before .before .before .before .before .before .before .before .before .before .before .before .before .before .before .before .before .whole-items2 .ensures) ∙ not-false _ (c .before .before .before .before .before .before .before .before .before .before .before .before .before .before .before .before .before .before .before .if2 .left))
+    (λ i. omega (arith, c .before .before .before .before .before .before .before .before .before .before .before .before .before .before .before .before .before .before .before .before .before .before .before .before .slice-known .given i)) (λ i. omega (arith, c .before .before .before .before .before .before .before .before .before .before .before .before .before .before .before .before .before .before .before .before .before .before .before .slice-known2 .given i)) _ _ _ _
+    (counted-front {A = ℕ} 0 4097 (x .result) _ _ (x .ensures) (omega arith)) (counted-front {A = ℕ} 0 4097 (y .result) _ _ (y .ensures) (omega arith))
+    (counted-front {A = ℕ} 0 4096 (s .result) _ _ (s .ensures) (omega arith)) (counted-front {A = ℕ} 0 4096 (l .result) _ _ (l .ensures) (omega arith))
+
+pub foldwig-build-spec : {M : Type 1} → statement M
+foldwig-build-spec =
+    tie.close
+    (tie.spec
+    whole-items-requires
+    refuse-requires
+    returns
+    whole-items-requires-2
+    refuse-requires-2
+    returns-2
+    smaller-requires
+    smaller-requires-2
+    smaller-requires-3
+    smaller-requires-4
+    array-borrow-prefix-size-items
+    slice-aggregate-build-items
+    array-borrow-prefix-loss-items
+    slice-aggregate-build-items-2
+    array-borrow-prefix-path-size-items
+    slice-aggregate-build-items-3
+    array-borrow-prefix-path-loss-items
+    slice-aggregate-build-items-4
+    build-items-requires
+    same-length
+    same-length-2
+    returns-3)

@@ -1,0 +1,3 @@
+// The calls in C, on numbers and byte strings.
+
+pub mod paths;
