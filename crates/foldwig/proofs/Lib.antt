@@ -1,0 +1,5 @@
+pub mod Cuts
+pub mod Joins
+pub mod SignalCuts
+pub mod SignalPaths
+pub mod SplitJoins
