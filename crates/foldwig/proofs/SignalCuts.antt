@@ -1,7 +1,6 @@
 -- A call on a signal looks at the first 513 samples, which are one too many, and at 32 places of each buffer: what it leaves on longer
 -- lists is what it leaves on their front, with the rest of the buffers after it.
 use mathlib.Core.Path.{_≡_, refl, ap, sym, subst, _∙_}
-use mathlib.Core.Bool.{Bool}
 use mathlib.Core.Logic.{⊎-elim}
 use mathlib.Core.List.{List, [], _∷_, _++_}
 use Prim.Native.Nat.{ℕ, zero, suc, _-_, _≤_, _<_, min}
@@ -13,7 +12,7 @@ use lib.ListN.{length, getD, take, drop, replicate, length-take, take-append-dro
 use lib.Seq.{take-all}
 use borrow.Author.Tests.{leb-true, le-leb}
 use Rattle.path.specs.Model.{Model, valuesOf, sizesOf, lossesOf}
-use Rattle.path.specs.Refusal.{Check, check, refusalOf, byChecks}
+use Rattle.path.specs.Refusal.{Check, check, refusalOf}
 use Rattle.path.proofs.Paths.{length-values}
 use Rattle.path.proofs.Checks.{both}
 use Rattle.select.specs.Penalty.{validPenalty}

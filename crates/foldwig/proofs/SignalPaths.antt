@@ -5,8 +5,7 @@ use mathlib.Core.Bool.{true, false, _&&_}
 use mathlib.Core.List.{List, [], _∷_, _++_, map}
 use Prim.Native.Nat.{ℕ, zero, suc, _*_, _/_, _%_, min}
 use native.Mathlib.Omega.{arith}
-use lib.IntN.{ℤ}
-use lib.ListN.{length, take, drop}
+use lib.ListN.{length, take, drop, replicate}
 use borrow.Author.Tests.{eqb-true}
 use Rattle.layout.specs.Items.{itemsTo, itemsOf, bytesOf, wholeItems, signedOf}
 use Rattle.layout.proofs.ItemLists.{Bytes}
@@ -19,7 +18,7 @@ use Rattle.signal.proofs.Cases.{path-refused, path-refusal}
 use Rattle.foldwig.specs.Numbers.{signeds}
 use Rattle.foldwig.specs.Signals.{pathNumbers, pathBytes, pathWhole, signalPathInBytes, signalPathBytesOf}
 use Rattle.foldwig.specs.SignalsInner.{readSamples, PathCounts, PathWithin, firstSamples, pathFront, pathOver, signalPathOver, signalPathFront}
-use Rattle.foldwig.proofs.Joins.{front-items, items-joined, front-back}
+use Rattle.foldwig.proofs.Joins.{front-items, items-joined, front-back, repeated-front}
 use Rattle.foldwig.proofs.SignalCuts.{pathTaken, pathRejoined, signalPathRejoined, signal-path-cut}
 
 map-take : {A B : Type 0} (f : A → B) (c : ℕ) (xs : List A) → take c (map f xs) ≡ map f (take c xs)
@@ -45,6 +44,10 @@ items-over k bytes c a b whole e xs =
 pub items-written : (k : ℕ) (bytes items left : List ℕ) {m a : ℕ} → left ≡ bytesOf k items ++ drop (k * m) bytes → m ≡ a → left ≡ bytesOf k items ++ drop (k * a) bytes
 items-written k bytes items left e h = e ∙ ap (λ (j : ℕ). bytesOf k items ++ drop (k * j) bytes) h
 
+-- The front of a list that is made of one value, as long as the smaller of the list's length and another number.
+pub smaller-front : {A : Type 0} (z : A) (n m : ℕ) {a : ℕ} → a ≡ min m n → length (take a (replicate n z)) ≡ a
+smaller-front z n m {a} e = repeated-front z n a (omega arith)
+
 -- The path's buffers hold bytes.
 pub record PathStrings (b : PathBuffers) : Type 0 where
   pub sizes : Bytes (b .sizes)
@@ -60,6 +63,10 @@ pub record PathRead (n : PathCounts) (read : List ℕ) (b : PathBuffers) : Type 
   pub samples : n .samples ≡ min (length read / 2) readSamples
   pub sizes : n .sizes ≡ min (length (b .sizes) / 2) maxSegments
   pub losses : n .losses ≡ min (length (b .losses) / 8) maxSegments
+
+pub path-within : (n : PathCounts) (read : List ℕ) (b : PathBuffers) → PathRead n read b → PathWithin n read b
+path-within n read b r =
+    record { samples-have = omega (arith, r .samples); sizes-have = omega (arith, r .sizes); losses-have = omega (arith, r .losses) }
 
 module _ (n : PathCounts) (samples : List ℕ) (b : PathBuffers) (s : PathStrings b) where
   -- The first items, written back, leave the buffers as they were.

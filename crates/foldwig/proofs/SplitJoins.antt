@@ -6,7 +6,7 @@ use mathlib.Core.List.{List, [], _∷_, _++_, map}
 use Prim.Native.Nat.{ℕ, zero, suc, _*_, _/_, _%_, min}
 use native.Mathlib.Omega.{arith}
 use lib.IntN.{ℤ}
-use lib.ListN.{length, drop, length-map}
+use lib.ListN.{length, drop}
 use borrow.Author.Tests.{eqb-true}
 use Rattle.layout.specs.Items.{itemsTo, itemsOf, bytesOf, wholeItems, signedOf, unsignedOf}
 use Rattle.layout.proofs.ItemLists.{Bytes, Below, items-low}
@@ -14,7 +14,6 @@ use Rattle.layout.proofs.Signs.{unsigned-signed}
 use Rattle.path.specs.Refusal.{check}
 use Rattle.path.proofs.Checks.{both, check-fails, last-passes, refuses, accepts}
 use Rattle.least.specs.Segmentation.{maxSegments}
-use Rattle.signal.specs.SignalPath.{pathBuffers}
 use Rattle.signal.specs.Split.{SplitBuffers, SplitOutcome, splitOutcome, splitOf}
 use Rattle.signal.specs.declared.SplitResult.{SplitResult}
 use Rattle.signal.proofs.Cases.{split-refused, split-refusal}
@@ -23,7 +22,7 @@ use Rattle.foldwig.specs.Signals.{pathWhole, SplitByteBuffers, splitByte
 use Rattle.foldwig.specs.SignalsInner.{readSamples, SplitCounts, SplitWithin, firstSamples, splitFirst, buffersOver, splitOver, splitFront}
 use Rattle.foldwig.proofs.Joins.{front-back}
 use Rattle.foldwig.proofs.SignalCuts.{splitTaken, splitRejoined, outcomeRejoined, split-cut}
-use Rattle.foldwig.proofs.SignalPaths.{items-read, signeds-read, items-over, items-written, PathStrings, WholePath, PathRead, path-kept, path-read, path-over, path-written, path-is-whole}
+use Rattle.foldwig.proofs.SignalPaths.{items-read, signeds-read, items-over, items-written, PathStrings, WholePath, PathRead, path-within, path-kept, path-read, path-over, path-written, path-is-whole}
 
 map-append : {A B : Type 0} (f : A → B) (xs ys : List A) → map f (xs ++ ys) ≡ map f xs ++ map f ys
 map-append f [] ys = refl
@@ -67,6 +66,10 @@ pub record SplitRead (n : SplitCounts) (read : List ℕ) (b : SplitByteBuffers) 
   pub starts : n .starts ≡ min (length (b .starts) / 2) maxSegments
   pub levels : n .levels ≡ min (length (b .levels) / 2) maxSegments
   pub path : PathRead (n .path) read (b .path)
+
+pub split-within : (n : SplitCounts) (read : List ℕ) (b : SplitByteBuffers) → SplitRead n read b → SplitWithin n read b
+split-within n read b r =
+    record { starts-have = omega (arith, r .starts); levels-have = omega (arith, r .levels); path-has = path-within (n .path) read (b .path) (r .path) }
 
 module _ (n : SplitCounts) (samples : List ℕ) (b : SplitByteBuffers) (s : SplitStrings b) where
   -- The first items, written back, leave the buffers as they were.

@@ -3,12 +3,12 @@ use mathlib.Core.Path.{sym, _∙_}
 use Prim.Native.Nat.{ℕ}
 use native.Mathlib.Omega.{arith}
 use lib.IntN.{ℤ, pos}
+use lib.ListN.{length, take, replicate}
 use borrow.Author.Tests.{not-true, not-false}
 use Rattle.least.specs.Segmentation.{maxSegments}
 use Rattle.signal.specs.SignalPath.{PathBuffers, pathBuffers}
-use Rattle.foldwig.specs.SignalsInner.{readSamples}
-use Rattle.foldwig.proofs.Joins.{repeated-front}
-use Rattle.foldwig.proofs.SignalPaths.{signal-path-joined, signal-path-eleven, signal-path-whole, path-is-whole}
+use Rattle.foldwig.specs.SignalsInner.{readSamples, PathCounts, pathCounts}
+use Rattle.foldwig.proofs.SignalPaths.{smaller-front, PathRead, path-within, signal-path-joined, signal-path-eleven, signal-path-whole, path-is-whole}
 use borrow.Author.Needs.{needs}
 use Rattle.foldwig.proofs.signals.foldwig_signal_path.Statement.{statement}
 use Rattle.foldwig.proofs.signals.foldwig_signal_path.Tie as tie
@@ -16,6 +16,25 @@ use Rattle.foldwig.proofs.signals.foldwig_signal_path.Tie as tie
 -- The byte strings as they were lent.
 abbrev lent : tie.Start → PathBuffers
 lent c = pathBuffers (c .args .path-sizes .now) (c .args .path-losses .now) (c .args .scratch .now)
+
+-- The lengths of the lists.
+abbrev counts : tie.After-smaller3 → PathCounts
+counts c =
+    pathCounts
+    (length (take (c .before .before .smaller .result) (replicate {A = ℤ} readSamples (pos 0))))
+    (length (take (c .before .smaller2 .result) (replicate {A = ℕ} maxSegments 0)))
+    (length (take (c .smaller3 .result) (replicate {A = ℕ} maxSegments 0)))
+
+read : (c : tie.After-smaller3) → PathRead (counts c) (c .before .before .before .before .before .before .before .before .before .args .samples .now) (lent (c .before .before .before .before .before .before .before .before .before))
+read c =
+    let n = c .before .before .smaller .ensures in
+    let s = c .before .smaller2 .ensures in
+    let l = c .smaller3 .ensures in
+    record {
+      samples = smaller-front {A = ℤ} (pos 0) readSamples _ n ∙ n;
+      sizes = smaller-front {A = ℕ} 0 maxSegments _ s ∙ s;
+      losses = smaller-front {A = ℕ} 0 maxSegments _ l ∙ l;
+    }
 
 path-whole-requires : tie.Need-path-whole-requires
 path-whole-requires c κs = search needs
@@ -38,30 +57,22 @@ array-borrow-prefix-sample-items : tie.Need-array-borrow-prefix-sample-items
 array-borrow-prefix-sample-items c = search needs
 
 slice-aggregate-path-items : tie.Need-slice-aggregate-path-items
-slice-aggregate-path-items c = sym (repeated-front {A = ℤ} (pos 0) readSamples (c .before .before .before .before .before .before .smaller .result) (omega (arith, c .before .before .before .before .before .before .smaller .ensures)))
+slice-aggregate-path-items c = sym (smaller-front {A = ℤ} (pos 0) readSamples _ (c .before .before .before .before .before .before .smaller .ensures))
 
 array-borrow-prefix-size-items : tie.Need-array-borrow-prefix-size-items
 array-borrow-prefix-size-items c = search needs
 
 slice-aggregate-path-items-2 : tie.Need-slice-aggregate-path-items-2
-slice-aggregate-path-items-2 c = sym (repeated-front {A = ℕ} 0 maxSegments (c .before .before .before .before .before .before .smaller2 .result) (omega (arith, c .before .before .before .before .before .before .smaller2 .ensures)))
+slice-aggregate-path-items-2 c = sym (smaller-front {A = ℕ} 0 maxSegments _ (c .before .before .before .before .before .before .smaller2 .ensures))
 
 array-borrow-prefix-loss-items : tie.Need-array-borrow-prefix-loss-items
 array-borrow-prefix-loss-items c = search needs
 
 slice-aggregate-path-items-3 : tie.Need-slice-aggregate-path-items-3
-slice-aggregate-path-items-3 c = sym (repeated-front {A = ℕ} 0 maxSegments (c .before .before .before .before .before .before .smaller3 .result) (omega (arith, c .before .before .before .before .before .before .smaller3 .ensures)))
+slice-aggregate-path-items-3 c = sym (smaller-front {A = ℕ} 0 maxSegments _ (c .before .before .before .before .before .before .smaller3 .ensures))
 
 path-items-requires : tie.Need-path-items-requires
-path-items-requires c κs =
-    let n = c .before .before .before .before .before .before .before .before .smaller in
-    let s = c .before .before .before .before .before .before .before .smaller2 in
-    let l = c .before .before .before .before .before .before .smaller3 in
-    record {
-      samples-have = omega (arith, n .ensures, repeated-front {A = ℤ} (pos 0) readSamples (n .result) (omega (arith, n .ensures)));
-      sizes-have = omega (arith, s .ensures, repeated-front {A = ℕ} 0 maxSegments (s .result) (omega (arith, s .ensures)));
-      losses-have = omega (arith, l .ensures, repeated-front {A = ℕ} 0 maxSegments (l .result) (omega (arith, l .ensures)));
-    }
+path-items-requires c κs = path-within _ _ _ (read (c .before .before .before .before .before .before))
 
 same-length : tie.Need-same-length
 same-length c = search needs
@@ -76,9 +87,6 @@ returns-2 : tie.Need-returns-2
 returns-2 c =
     let start = c .before .before .before .before .before .before .before .before .before .before .before .before .before .before .before .before .before .before .before .before .before .before .before .before .before in
     let a = start .args in
-    let n = c .before .before .before .before .before .before .before .before .before .before .before .before .before .before .before .before .before .before .smaller in
-    let s = c .before .before .before .before .before .before .before .before .before .before .before .before .before .before .before .before .before .smaller2 in
-    let l = c .before .before .before .before .before .before .before .before .before .before .before .before .before .before .before .before .smaller3 in
     let whole = sym (c .before .before .before .before .before .before .before .before .before .before .before .before .before .before .before .before .before .before .before .before .path-whole .ensures) ∙ not-false _ (c .before .before .before .before .before .before .before .before .before .before .before .before .before .before .before .before .before .before .before .if1 .left) in
     c .before .before .before .before .before .before .before .before .before .path-items .ensures
     ∙ signal-path-joined _ (a .samples .now) (lent start)
@@ -86,12 +94,7 @@ returns-2 c =
       sizes = λ i. omega (arith, c .before .before .before .before .before .before .before .before .before .before .before .before .before .before .before .before .before .before .before .before .before .before .before .slice-known .given i);
       losses = λ i. omega (arith, c .before .before .before .before .before .before .before .before .before .before .before .before .before .before .before .before .before .before .before .before .before .before .slice-known2 .given i);
     }
-    record {
-      samples = repeated-front {A = ℤ} (pos 0) readSamples (n .result) (omega (arith, n .ensures)) ∙ n .ensures;
-      sizes = repeated-front {A = ℕ} 0 maxSegments (s .result) (omega (arith, s .ensures)) ∙ s .ensures;
-      losses = repeated-front {A = ℕ} 0 maxSegments (l .result) (omega (arith, l .ensures)) ∙ l .ensures;
-    }
-    (path-is-whole (a .samples .now) (a .max-segments) (lent start) whole) (a .max-segments)
+    (read (c .before .before .before .before .before .before .before .before .before .before .before .before .before .before .before .before)) (path-is-whole (a .samples .now) (a .max-segments) (lent start) whole) (a .max-segments)
     ∙ signal-path-whole (a .samples .now) (a .max-segments) (lent start) whole
 
 pub foldwig-signal-path-spec : {M : Type 1} → statement M
