@@ -54,10 +54,10 @@ same-cond true x y z f = f refl
 same-cond false x y z f = refl
 
 -- A call leaves an image of what another call leaves, where both are refused alike and accepted alike.
-pub checks-cut : {A B : Type 0} (f : B → A) (cs ds : List Check) (refused : ℕ → A) (refused' : ℕ → B) (accepted : A) (accepted' : B) → refusalOf ds ≡ refusalOf cs
+pub by-checks-cut : {A B : Type 0} (f : B → A) (cs ds : List Check) (refused : ℕ → A) (refused' : ℕ → B) (accepted : A) (accepted' : B) → refusalOf ds ≡ refusalOf cs
     → ((c : ℕ) → refused c ≡ f (refused' c)) → (refusalOf cs ≡ 0 → accepted ≡ f accepted') → byChecks cs refused accepted ≡ f (byChecks ds refused' accepted')
 unfolding byChecks
-checks-cut f cs ds refused refused' accepted accepted' e g h = rw e (by-test (eqb (refusalOf cs) 0) (eqb-true (refusalOf cs) 0))
+by-checks-cut f cs ds refused refused' accepted accepted' e g h = rw e (by-test (eqb (refusalOf cs) 0) (eqb-true (refusalOf cs) 0))
   where
     by-test : (b : Bool) → (b ≡ true → refusalOf cs ≡ 0) → cond b accepted (refused (refusalOf cs)) ≡ f (cond b accepted' (refused' (refusalOf cs)))
     by-test true z = h (z refl)

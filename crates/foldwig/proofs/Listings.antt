@@ -19,7 +19,7 @@ use Rattle.select.specs.declared.BreakpointsResult.{BreakpointsResult}
 use Rattle.select.proofs.Listings.{breakpoints-counted, breakpoints-refusal, breakpoints-refused, listable}
 use Rattle.foldwig.specs.Paths.{breakpointsInBytes, breakpointsBytesOf}
 use Rattle.foldwig.specs.PathsInner.{Holds, breakpointsOverFront}
-use Rattle.foldwig.proofs.Cuts.{overwritten-cut, leb-take, same-cond, checks-cut}
+use Rattle.foldwig.proofs.Cuts.{overwritten-cut, leb-take, same-cond, by-checks-cut}
 use Rattle.foldwig.proofs.Joins.{counted-items, counted-joined, front-back, front-written}
 use Rattle.foldwig.proofs.PathCuts.{enough-places, path-cut, few-within, valid-cut}
 
@@ -65,7 +65,7 @@ module _ (c : ℕ) (s l : List ℕ) (n : ℕ) (x y : List ℕ) (enough : (n ≤ 
   breakpoints-cut : breakpointsOf s l n x y ≡ breakpointsLonger (drop c x) (drop c y) (breakpointsOf (take c s) (take c l) n (take c x) (take c y))
   unfolding breakpointsOf
   breakpoints-cut =
-      checks-cut (breakpointsLonger (drop c x) (drop c y)) (breakpointsChecks s l n (length x) (length y)) (breakpointsChecks (take c s) (take c l) n (length (take c x)) (length (take c y))) (breakpointsRefused x y) (breakpointsRefused (take c x) (take c y)) _ _ same-refusal
+      by-checks-cut (breakpointsLonger (drop c x) (drop c y)) (breakpointsChecks s l n (length x) (length y)) (breakpointsChecks (take c s) (take c l) n (length (take c x)) (length (take c y))) (breakpointsRefused x y) (breakpointsRefused (take c x) (take c y)) _ _ same-refusal
       (λ r i. breakpointsRefused (sym (take-append-drop c x) i) (sym (take-append-drop c y) i) r)
       left-cut
 

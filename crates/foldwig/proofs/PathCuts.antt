@@ -24,7 +24,7 @@ use Rattle.select.specs.Penalty.{validPenalty}
 use Rattle.select.specs.Select.{selectedFrom, selected, selectChecks, selectRefused, entryAt, selectOf}
 use Rattle.select.specs.declared.SelectResult.{SelectResult}
 use Rattle.select.proofs.Walks.{selected-within, selectable}
-use Rattle.foldwig.proofs.Cuts.{agree, le-or-lt, overwritten-to-cut, leb-take, same-cond, checks-cut}
+use Rattle.foldwig.proofs.Cuts.{agree, le-or-lt, overwritten-to-cut, leb-take, same-cond, by-checks-cut}
 
 -- An outcome with more at the end of its buffers.
 abbrev pub pathLonger : List ℕ → List ℕ → PathOutcome → PathOutcome
@@ -106,7 +106,7 @@ module _ (c : ℕ) (s l : List ℕ) (n : ℕ) (m : Model) (enough : (n < c) ⊎ 
   pub append-cut : appendOf s l n m ≡ pathLonger (drop c s) (drop c l) (appendOf (take c s) (take c l) n m)
   unfolding appendOf
   append-cut =
-      checks-cut (pathLonger (drop c s) (drop c l)) (appendChecks s l n m) (appendChecks (take c s) (take c l) n m) (pathRefused s l) (pathRefused (take c s) (take c l)) _ _ same-append (refused-cut c s l) append-left
+      by-checks-cut (pathLonger (drop c s) (drop c l)) (appendChecks s l n m) (appendChecks (take c s) (take c l) n m) (pathRefused s l) (pathRefused (take c s) (take c l)) _ _ same-append (refused-cut c s l) append-left
 
 -- A selection looks at the entries.
 module _ (c : ℕ) (s l : List ℕ) (p q : ℕ) where
@@ -128,7 +128,7 @@ module _ (c : ℕ) (s l : List ℕ) (p q : ℕ) where
     pub select-cut : selectOf s l n p q ≡ selectOf (take c s) (take c l) n p q
     unfolding selectOf
     select-cut =
-        checks-cut (λ (r : SelectResult). r) (selectChecks s l n p q) (selectChecks (take c s) (take c l) n p q) selectRefused selectRefused _ _ (ap (λ (b : Bool). refusalOf (check 8 b ∷ check 10 (leb 1 n) ∷ check 4 (validPenalty p q) ∷ [])) (valid-cut c s l n enough)) (λ r. refl) entry-cut
+        by-checks-cut (λ (r : SelectResult). r) (selectChecks s l n p q) (selectChecks (take c s) (take c l) n p q) selectRefused selectRefused _ _ (ap (λ (b : Bool). refusalOf (check 8 b ∷ check 10 (leb 1 n) ∷ check 4 (validPenalty p q) ∷ [])) (valid-cut c s l n enough)) (λ r. refl) entry-cut
 
 -- A build looks at more models than there may be, if there are so many, and at as many places as there may be models.
 built-few : (a b : List ℕ) (i : ℕ) → length (built a b i) ≤ i
@@ -146,7 +146,7 @@ module _ (a b s l : List ℕ) (d : ℕ) (places : maxModels ≤ d) where
   few-cut h =
       let n = countOf a b in
       let room : roomFor n (length (take d s) ∷ length (take d l) ∷ []) ≡ roomFor n (length s ∷ length l ∷ []) = rw (leb-take n d s (omega arith), leb-take n d l (omega arith)) in
-      checks-cut (pathLonger (drop d s) (drop d l)) (buildChecks a b (length s) (length l)) (buildChecks a b (length (take d s)) (length (take d l))) (pathRefused s l) (pathRefused (take d s) (take d l)) _ _
+      by-checks-cut (pathLonger (drop d s) (drop d l)) (buildChecks a b (length s) (length l)) (buildChecks a b (length (take d s)) (length (take d l))) (pathRefused s l) (pathRefused (take d s) (take d l)) _ _
       (λ i. refusalOf (check 1 (leb 1 n) ∷ check 2 (leb n maxModels) ∷ (listChecks a b 0 n ++ (check 9 (room i) ∷ []))))
       (refused-cut d s l)
       (λ e. left-cut (built a b n) (builtTests a b n) n d s l (omega (arith, built-few a b n)) (omega arith))
