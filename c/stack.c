@@ -1,0 +1,131 @@
+// Measures the stack of each call: paints the unused part of a thread's stack, makes the call at its largest input, and looks how
+// far down the paint is gone. It prints the bytes between the caller's frame and the lowest byte that was written.
+#define _DEFAULT_SOURCE
+#include "../include/foldwig.h"
+#include <pthread.h>
+#include <stdio.h>
+#include <stdlib.h>
+#include <string.h>
+#include <sys/mman.h>
+
+enum { STACK = 1 << 20, MARGIN = 512, PAINT = 0x5d, MODELS = 4096, CALLS = 6 };
+
+// The largest inputs: a path that also serves as the models of a build, and a signal.
+static uint8_t sizes[2 * MODELS], losses[8 * MODELS], path_sizes[2 * MODELS], path_losses[8 * MODELS];
+static uint8_t samples[2 * FOLDWIG_MAX_SAMPLES], starts[64], levels[64], scratch[FOLDWIG_SCRATCH_LEN];
+static uint8_t *stack;
+
+static void put(uint8_t *at, size_t width, uint64_t value)
+{
+    for (size_t j = 0; j < width; j++)
+        at[j] = (uint8_t)(value >> (8 * j));
+}
+
+// Makes a path whose breakpoints fall, so that all models stay on it, and a signal that goes up and down.
+static void fill(void)
+{
+    for (uint64_t i = 0; i < MODELS; i++) {
+        put(sizes + 2 * i, 2, i + 1);
+        put(losses + 8 * i, 8, (MODELS - i) * (MODELS - i) + 1);
+    }
+    for (uint64_t i = 0; i < FOLDWIG_MAX_SAMPLES; i++)
+        put(samples + 2 * i, 2, i * i * 7919);
+}
+
+static uint64_t call_append(void)
+{
+    return foldwig_append(sizes, sizeof sizes, losses, sizeof losses, MODELS - 1, MODELS, 0).refusal;
+}
+
+static uint64_t call_build(void)
+{
+    return foldwig_build(sizes, sizeof sizes, losses, sizeof losses, path_sizes, sizeof path_sizes, path_losses, sizeof path_losses)
+        .refusal;
+}
+
+static uint64_t call_select(void)
+{
+    return foldwig_select(sizes, sizeof sizes, losses, sizeof losses, MODELS, 0, 1).refusal;
+}
+
+static uint64_t call_breakpoints(void)
+{
+    return foldwig_breakpoints(sizes, sizeof sizes, losses, sizeof losses, MODELS, path_losses, sizeof path_losses, path_sizes,
+                               sizeof path_sizes)
+        .refusal;
+}
+
+static uint64_t call_signal_path(void)
+{
+    return foldwig_signal_path(samples, sizeof samples, 32, path_sizes, 64, path_losses, 256, scratch, sizeof scratch).refusal;
+}
+
+static uint64_t call_split(void)
+{
+    return foldwig_split(samples, sizeof samples, 32, 1, 1, starts, sizeof starts, levels, sizeof levels, path_sizes, 64,
+                         path_losses, 256, scratch, sizeof scratch)
+        .refusal;
+}
+
+static const struct {
+    const char *name;
+    uint64_t (*call)(void);
+} measured[CALLS] = {
+    {"foldwig_append", call_append},           {"foldwig_build", call_build},
+    {"foldwig_select", call_select},           {"foldwig_breakpoints", call_breakpoints},
+    {"foldwig_signal_path", call_signal_path}, {"foldwig_split", call_split},
+};
+
+// A call to measure, its refusal and the bytes of stack that it took.
+struct measurement {
+    uint64_t (*call)(void);
+    uint64_t refusal;
+    size_t bytes;
+};
+
+// Paints the stack from its low end to a margin below this frame, makes the call, and finds the lowest byte without paint.
+static void *measure(void *argument)
+{
+    struct measurement *m = argument;
+    volatile uint8_t mark = 0;
+    volatile uint8_t *painted = stack;
+    size_t here = (size_t)((uintptr_t)&mark - (uintptr_t)stack), low = 0;
+    for (size_t i = 0; i < here - MARGIN; i++)
+        painted[i] = PAINT;
+    m->refusal = m->call();
+    while (low < here - MARGIN && painted[low] == PAINT)
+        low++;
+    m->bytes = here - low;
+    return NULL;
+}
+
+static void measure_in_thread(struct measurement *m)
+{
+    pthread_attr_t attributes;
+    pthread_t thread;
+    if (pthread_attr_init(&attributes) != 0 || pthread_attr_setstack(&attributes, stack, STACK) != 0 ||
+        pthread_create(&thread, &attributes, measure, m) != 0) {
+        fprintf(stderr, "no thread can be started\n");
+        exit(2);
+    }
+    pthread_join(thread, NULL);
+    pthread_attr_destroy(&attributes);
+}
+
+int main(void)
+{
+    int refused = 0;
+    stack = mmap(NULL, STACK, PROT_READ | PROT_WRITE, MAP_PRIVATE | MAP_ANONYMOUS, -1, 0);
+    if (stack == MAP_FAILED)
+        return 2;
+    for (int i = 0; i < CALLS; i++) {
+        struct measurement m = {measured[i].call, 0, 0};
+        fill();
+        m.call();       // a first call, so that what the linker does at first use is not measured
+        fill();
+        measure_in_thread(&m);
+        printf("%-20s %7zu bytes of stack%s\n", measured[i].name, m.bytes, m.bytes <= MARGIN ? " at most" : "");
+        refused = refused || m.refusal != 0;
+    }
+    return refused;
+}
