@@ -7,10 +7,16 @@
 
 enum { GUARD = 64, GUARD_BYTE = 0xa7, MOST_MISMATCHES = 10 };
 
-// A buffer: pages that can be written between two that can't be touched, where the call finds its bytes, and the copy.
+// How many byte strings each call is lent, and how many of these, the first ones, it only reads.
+static const int lent_to[CALLS] = {2, 4, 2, 4, 4, 6};
+static const int only_read[CALLS] = {0, 2, 2, 2, 1, 1};
+
+// A buffer: pages that can be written between two that can't be touched, where its bytes stand in them, the address that the call
+// gets, which may be null if there are no bytes, and the copy.
 struct lent {
     uint8_t *pages;
     uint8_t *at;
+    uint8_t *given;
     size_t len;
     uint8_t copy[MOST_BYTES];
 };
@@ -20,6 +26,7 @@ static uint64_t state;
 static unsigned long calls[CALLS], mismatches;
 static unsigned long refusals[CALLS][FOLDWIG_REFUSALS];             // how often a call answered a number
 static unsigned long met[CALLS][FOLDWIG_REFUSALS][FOLDWIG_REFUSALS];    // how often two causes held at once
+static unsigned long nulls[CALLS][BUFFERS];                         // how often a byte string was lent as null
 static const char *const names[CALLS] = {"append", "build", "select", "breakpoints", "signal_path", "split"};
 
 // ---- Random numbers
@@ -101,21 +108,40 @@ static void lend(struct lent *l)
     size_t free = MOST_BYTES - l->len;
     uint64_t place = below(4);
     l->at = place < 2 ? l->pages + free : place == 2 ? l->pages : l->pages + below(free < 200 ? free + 1 : 200);
+    l->given = l->len == 0 && one_in(2) ? NULL : l->at;
     memcpy(l->at, l->copy, l->len);
     memset(l->at - guard_before(l), GUARD_BYTE, guard_before(l));
     memset(l->at + l->len, GUARD_BYTE, guard_behind(l));
 }
 
-static void lend_all(int count)
+// Lets the pages of what a call only reads be written, or not.
+static void protect(enum call call, int protection)
 {
-    for (int i = 0; i < count; i++)
-        lend(&lent[i]);
+    for (int i = 0; i < only_read[call]; i++)
+        if (mprotect(lent[i].pages, MOST_BYTES, protection) != 0) {
+            perror("protecting the buffers");
+            exit(2);
+        }
 }
 
-// The address that the call gets. A buffer without bytes is sometimes null.
-static uint8_t *address(int i)
+static int is_protected;
+
+// Lends all byte strings of a call. Now and then those that it only reads can't be written.
+static void lend_all(enum call call)
 {
-    return lent[i].len == 0 && one_in(2) ? NULL : lent[i].at;
+    for (int i = 0; i < lent_to[call]; i++) {
+        lend(&lent[i]);
+        nulls[call][i] += lent[i].given == NULL;
+    }
+    is_protected = one_in(16);
+    if (is_protected)
+        protect(call, PROT_READ);
+}
+
+static void take_back(enum call call)
+{
+    if (is_protected)
+        protect(call, PROT_READ | PROT_WRITE);
 }
 
 static int guards_stand(const uint8_t *at, size_t count)
@@ -161,44 +187,66 @@ static void check_buffer(enum call call, int i)
     count_mismatch();
 }
 
-static void print_fields(const uint64_t *fields, int count)
+static void print_numbers(const char *what, const uint64_t *numbers, int count)
 {
+    printf("%s", what);
     for (int i = 0; i < count; i++)
-        printf(" %llu", (unsigned long long)fields[i]);
+        printf(" %llu", (unsigned long long)numbers[i]);
+}
+
+// What a call was given beside its byte strings, and what it and the reference answered.
+struct answers {
+    int numbers, fields;
+    uint64_t given[3], got[4], wanted[4];
+};
+
+static void print_answers(enum call call, const struct answers *a)
+{
+    printf("mismatch: %s", names[call]);
+    print_numbers(" answers", a->got, a->fields);
+    print_numbers(", expected", a->wanted, a->fields);
+    print_numbers("; given", a->given, a->numbers);
+    printf(" and lengths");
+    for (int i = 0; i < lent_to[call]; i++)
+        printf(" %zu", lent[i].len);
+    printf("\n");
 }
 
 // Compares the fields of two answers and the buffers, and counts the call and its causes.
-static void check(enum call call, int buffers, const uint64_t *got, const uint64_t *wanted, int fields, unsigned causes)
+static void check(enum call call, const struct answers *answers, unsigned causes)
 {
+    take_back(call);
     calls[call]++;
-    if (memcmp(got, wanted, (size_t)fields * sizeof *got) != 0) {
-        printf("mismatch: %s answers", names[call]);
-        print_fields(got, fields);
-        printf(", expected");
-        print_fields(wanted, fields);
-        printf("\n");
+    if (memcmp(answers->got, answers->wanted, (size_t)answers->fields * sizeof answers->got[0]) != 0) {
+        print_answers(call, answers);
         count_mismatch();
     }
-    for (int i = 0; i < buffers; i++)
+    for (int i = 0; i < lent_to[call]; i++)
         check_buffer(call, i);
-    if (wanted[0] < FOLDWIG_REFUSALS)
-        refusals[call][wanted[0]]++;
+    if (answers->wanted[0] < FOLDWIG_REFUSALS)
+        refusals[call][answers->wanted[0]]++;
     for (int a = 1; a < FOLDWIG_REFUSALS; a++)
         for (int b = a + 1; b < FOLDWIG_REFUSALS; b++)
             met[call][a][b] += causes >> a & causes >> b & 1;
 }
 
-// ---- The calls
+// ---- The calls. LENT is a byte string as the library gets it, a pointer and a length.
+
+#define LENT(i) lent[i].given, lent[i].len
 
 struct foldwig_path_result compare_append(uint64_t entries, uint64_t size, uint64_t loss)
 {
     struct foldwig_path_result got, wanted;
     unsigned causes;
-    lend_all(2);
-    got = foldwig_append(address(0), lent[0].len, address(1), lent[1].len, entries, size, loss);
+    lend_all(APPEND);
+    got = foldwig_append(LENT(0), LENT(1), entries, size, loss);
     wanted = reference_append(buffer(0), buffer(1), entries, size, loss, &causes);
-    uint64_t g[] = {got.refusal, got.entries, got.tests}, w[] = {wanted.refusal, wanted.entries, wanted.tests};
-    check(APPEND, 2, g, w, 3, causes);
+    struct answers a = {3,
+                        3,
+                        {entries, size, loss},
+                        {got.refusal, got.entries, got.tests, 0},
+                        {wanted.refusal, wanted.entries, wanted.tests, 0}};
+    check(APPEND, &a, causes);
     return wanted;
 }
 
@@ -206,11 +254,15 @@ struct foldwig_path_result compare_build(void)
 {
     struct foldwig_path_result got, wanted;
     unsigned causes;
-    lend_all(4);
-    got = foldwig_build(address(0), lent[0].len, address(1), lent[1].len, address(2), lent[2].len, address(3), lent[3].len);
+    lend_all(BUILD);
+    got = foldwig_build(LENT(0), LENT(1), LENT(2), LENT(3));
     wanted = reference_build(buffer(0), buffer(1), buffer(2), buffer(3), &causes);
-    uint64_t g[] = {got.refusal, got.entries, got.tests}, w[] = {wanted.refusal, wanted.entries, wanted.tests};
-    check(BUILD, 4, g, w, 3, causes);
+    struct answers a = {0,
+                        3,
+                        {0, 0, 0},
+                        {got.refusal, got.entries, got.tests, 0},
+                        {wanted.refusal, wanted.entries, wanted.tests, 0}};
+    check(BUILD, &a, causes);
     return wanted;
 }
 
@@ -218,11 +270,15 @@ struct foldwig_select_result compare_select(uint64_t entries, uint64_t p, uint64
 {
     struct foldwig_select_result got, wanted;
     unsigned causes;
-    lend_all(2);
-    got = foldwig_select(address(0), lent[0].len, address(1), lent[1].len, entries, p, q);
+    lend_all(SELECT);
+    got = foldwig_select(LENT(0), LENT(1), entries, p, q);
     wanted = reference_select(buffer(0), buffer(1), entries, p, q, &causes);
-    uint64_t g[] = {got.refusal, got.index, got.size, got.loss}, w[] = {wanted.refusal, wanted.index, wanted.size, wanted.loss};
-    check(SELECT, 2, g, w, 4, causes);
+    struct answers a = {3,
+                        4,
+                        {entries, p, q},
+                        {got.refusal, got.index, got.size, got.loss},
+                        {wanted.refusal, wanted.index, wanted.size, wanted.loss}};
+    check(SELECT, &a, causes);
     return wanted;
 }
 
@@ -230,12 +286,11 @@ struct foldwig_breakpoints_result compare_breakpoints(uint64_t entries)
 {
     struct foldwig_breakpoints_result got, wanted;
     unsigned causes;
-    lend_all(4);
-    got = foldwig_breakpoints(address(0), lent[0].len, address(1), lent[1].len, entries, address(2), lent[2].len, address(3),
-                              lent[3].len);
+    lend_all(BREAKPOINTS);
+    got = foldwig_breakpoints(LENT(0), LENT(1), entries, LENT(2), LENT(3));
     wanted = reference_breakpoints(buffer(0), buffer(1), entries, buffer(2), buffer(3), &causes);
-    uint64_t g[] = {got.refusal, got.count}, w[] = {wanted.refusal, wanted.count};
-    check(BREAKPOINTS, 4, g, w, 2, causes);
+    struct answers a = {1, 2, {entries, 0, 0}, {got.refusal, got.count, 0, 0}, {wanted.refusal, wanted.count, 0, 0}};
+    check(BREAKPOINTS, &a, causes);
     return wanted;
 }
 
@@ -243,12 +298,12 @@ struct foldwig_signal_path_result compare_signal_path(uint64_t max_segments)
 {
     struct foldwig_signal_path_result got, wanted;
     unsigned causes;
-    lend_all(4);
-    got = foldwig_signal_path(address(0), lent[0].len, max_segments, address(1), lent[1].len, address(2), lent[2].len, address(3),
-                              lent[3].len);
+    lend_all(SIGNAL_PATH);
+    got = foldwig_signal_path(LENT(0), max_segments, LENT(1), LENT(2),
+                              LENT(3));
     wanted = reference_signal_path(buffer(0), max_segments, buffer(1), buffer(2), buffer(3), &causes);
-    uint64_t g[] = {got.refusal, got.entries}, w[] = {wanted.refusal, wanted.entries};
-    check(SIGNAL_PATH, 4, g, w, 2, causes);
+    struct answers a = {1, 2, {max_segments, 0, 0}, {got.refusal, got.entries, 0, 0}, {wanted.refusal, wanted.entries, 0, 0}};
+    check(SIGNAL_PATH, &a, causes);
     return wanted;
 }
 
@@ -256,13 +311,16 @@ struct foldwig_split_result compare_split(uint64_t max_segments, uint64_t p, uin
 {
     struct foldwig_split_result got, wanted;
     unsigned causes;
-    lend_all(6);
-    got = foldwig_split(address(0), lent[0].len, max_segments, p, q, address(1), lent[1].len, address(2), lent[2].len, address(3),
-                        lent[3].len, address(4), lent[4].len, address(5), lent[5].len);
+    lend_all(SPLIT);
+    got = foldwig_split(LENT(0), max_segments, p, q, LENT(1), LENT(2), LENT(3), LENT(4),
+                        LENT(5));
     wanted = reference_split(buffer(0), max_segments, p, q, buffer(1), buffer(2), buffer(3), buffer(4), buffer(5), &causes);
-    uint64_t g[] = {got.refusal, got.segments, got.loss, got.entries};
-    uint64_t w[] = {wanted.refusal, wanted.segments, wanted.loss, wanted.entries};
-    check(SPLIT, 6, g, w, 4, causes);
+    struct answers a = {3,
+                        4,
+                        {max_segments, p, q},
+                        {got.refusal, got.segments, got.loss, got.entries},
+                        {wanted.refusal, wanted.segments, wanted.loss, wanted.entries}};
+    check(SPLIT, &a, causes);
     return wanted;
 }
 
@@ -288,6 +346,11 @@ static int can_meet(enum call call, int a, int b)
 static int unseen(enum call call)
 {
     int count = 0;
+    for (int i = 0; i < lent_to[call]; i++)
+        if (nulls[call][i] == 0) {
+            printf("not seen: %s with null as its byte string %d\n", names[call], i + 1);
+            count++;
+        }
     for (const int *a = orders[call]; *a != 0; a++) {
         if (refusals[call][*a] == 0) {
             printf("not seen: %s with refusal %d\n", names[call], *a);

@@ -2,7 +2,8 @@
 //
 // A test fills buffers 0, 1 and so on, in the order of the call's byte strings, and then compares the call. The library gets
 // each buffer between pages that can't be read or written, often flush against one of them, with guard bytes in what is left of
-// its own pages. The reference gets a copy. Then every byte of all buffers, the guard bytes, and the answers are compared.
+// its own pages; now and then what it only reads can't be written. The reference gets a copy. Then every byte of all buffers, the
+// guard bytes, and the answers are compared.
 #ifndef LENT_H
 #define LENT_H
 
@@ -39,8 +40,8 @@ struct foldwig_split_result compare_split(uint64_t max_segments, uint64_t p, uin
 // Counts a mismatch if something that must be so is not so. After ten mismatches the test ends.
 void expect(int so, const char *what);
 
-// Prints what was compared, and answers the status of the program: 0 if nothing differed and every refusal and every pair of
-// causes that can meet was seen.
+// Prints what was compared, and answers the status of the program: 0 if nothing differed and if every refusal, every pair of
+// causes that can meet and null for every byte string was seen.
 int summary(void);
 
 #endif

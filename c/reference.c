@@ -252,12 +252,13 @@ static unsigned append_causes(struct bytes sizes, struct bytes losses, uint64_t 
 struct foldwig_path_result reference_append(struct bytes sizes, struct bytes losses, uint64_t entries, uint64_t size,
                                             uint64_t loss, unsigned *causes)
 {
-    static const int order[] = {8, 5, 6, 7, 9, 0};
+    static const int right[] = {8, 5, 6, 7, 9, 0};
+    static const int wrong[] = {5, 8, 6, 7, 9, 0};
     struct model m = {size, loss};
     struct foldwig_path_result r = {0, 0, 0};
     size_t stay;
     *causes = append_causes(sizes, losses, entries, m);
-    r.refusal = first_of(*causes, order);
+    r.refusal = first_of(*causes, FAULT == 21 ? wrong : right);
     if (r.refusal != 0)
         return r;
     stay = staying(entries, m);
@@ -339,6 +340,8 @@ struct foldwig_select_result reference_select(struct bytes sizes, struct bytes l
         return r;
     while (r.index + 1 < entries && better(cost(models[r.index + 1], p, q), cost(models[r.index], p, q)))
         r.index++;
+    if (FAULT == 23)
+        r.index = cheapest(models, entries, p, q);
     r.size = models[r.index].size;
     r.loss = models[r.index].loss;
     return r;
@@ -406,6 +409,24 @@ static int64_t loss_at(size_t first, size_t last, int64_t level)
     return loss;
 }
 
+// The least loss of a segment of a short signal. If its samples are near each other, every level between them is tried.
+static int64_t tried_loss(size_t first, size_t last)
+{
+    int64_t low = samples_of[first], high = low, least;
+    for (size_t i = first; i <= last; i++) {
+        low = samples_of[i] < low ? samples_of[i] : low;
+        high = samples_of[i] > high ? samples_of[i] : high;
+    }
+    least = loss_at(first, last, level_of(first, last));
+    if (high - low > 100 || FAULT == 3)
+        return least;
+    least = loss_at(first, last, low);
+    for (int64_t level = low + 1; level <= high; level++)
+        if (loss_at(first, last, level) < least)
+            least = loss_at(first, last, level);
+    return least;
+}
+
 // ---- Segmentations. Place k of these two holds the one into k segments.
 
 static int64_t least_loss[MAX_SEGMENTS + 1];
@@ -439,7 +460,7 @@ static void try_all(size_t n, size_t largest)
     static int64_t loss[MAX_TRIED][MAX_TRIED];
     for (size_t i = 0; i < n; i++)
         for (size_t j = i; j < n; j++)
-            loss[i][j] = loss_at(i, j, level_of(i, j));
+            loss[i][j] = tried_loss(i, j);
     for (size_t k = 1; k <= largest; k++)
         least_loss[k] = INT64_MAX;
     for (unsigned mask = 0; mask < 1u << (n - 1); mask++) {
@@ -639,13 +660,18 @@ struct foldwig_split_result reference_split(struct bytes samples, uint64_t max_s
     uint64_t needed = max_segments < n ? max_segments : n;
     *causes = signal_causes(samples, max_segments, path_sizes, path_losses, scratch);
     *causes |= cause_if(11, odd_length(starts, 2) || odd_length(levels, 2)) | cause_if(4, bad_penalty(p, q));
-    *causes |= cause_if(9, smaller(starts.len / 2, levels.len / 2) < needed);
+    *causes |= cause_if(9, FAULT != 22 && smaller(starts.len / 2, levels.len / 2) < needed);
     r.refusal = first_of(*causes, FAULT == 9 ? wrong : right);
     if (r.refusal != 0)
         return r;
     largest = make_models(samples, max_segments);
-    r.entries = winners(largest);
     r.segments = models[cheapest(models, largest, p, q)].size;
+    if (FAULT == 22 && smaller(starts.len / 2, levels.len / 2) < r.segments) {
+        r.refusal = 9;
+        r.segments = 0;
+        return r;
+    }
+    r.entries = winners(largest);
     r.loss = (uint64_t)loss_of_starts(r.segments, n);
     put_path(path_sizes, path_losses, r.entries, largest);
     put_segments(starts, levels, r.segments, n);

@@ -23,6 +23,9 @@
 //   18  a loss of 2^44 is out of range
 //   19  a signal of 512 samples is too long
 //   20  segments are cut greedily, the best next cut first
+//   21  an append finds a bad model before a bad path
+//   22  a split needs room for the starts and levels that it writes only
+//   23  a selection gives the cheapest entry of any list
 #ifndef REFERENCE_H
 #define REFERENCE_H
 

@@ -1,5 +1,6 @@
 // Measures the stack of each call: paints the unused part of a thread's stack, makes the call at its largest input, and looks how
-// far down the paint is gone. It prints the bytes between the caller's frame and the lowest byte that was written.
+// far down the paint is gone. It prints the bytes between the caller's frame and the lowest byte that was written, and ends with
+// status 1 if they are more than the header says.
 #define _DEFAULT_SOURCE
 #include "../include/foldwig.h"
 #include <pthread.h>
@@ -70,10 +71,14 @@ static uint64_t call_split(void)
 static const struct {
     const char *name;
     uint64_t (*call)(void);
+    size_t said;
 } measured[CALLS] = {
-    {"foldwig_append", call_append},           {"foldwig_build", call_build},
-    {"foldwig_select", call_select},           {"foldwig_breakpoints", call_breakpoints},
-    {"foldwig_signal_path", call_signal_path}, {"foldwig_split", call_split},
+    {"foldwig_append", call_append, FOLDWIG_APPEND_STACK},
+    {"foldwig_build", call_build, FOLDWIG_BUILD_STACK},
+    {"foldwig_select", call_select, FOLDWIG_SELECT_STACK},
+    {"foldwig_breakpoints", call_breakpoints, FOLDWIG_BREAKPOINTS_STACK},
+    {"foldwig_signal_path", call_signal_path, FOLDWIG_SIGNAL_PATH_STACK},
+    {"foldwig_split", call_split, FOLDWIG_SPLIT_STACK},
 };
 
 // A call to measure, its refusal and the bytes of stack that it took.
@@ -114,7 +119,7 @@ static void measure_in_thread(struct measurement *m)
 
 int main(void)
 {
-    int refused = 0;
+    int wrong = 0;
     stack = mmap(NULL, STACK, PROT_READ | PROT_WRITE, MAP_PRIVATE | MAP_ANONYMOUS, -1, 0);
     if (stack == MAP_FAILED)
         return 2;
@@ -124,8 +129,9 @@ int main(void)
         m.call();       // a first call, so that what the linker does at first use is not measured
         fill();
         measure_in_thread(&m);
-        printf("%-20s %7zu bytes of stack%s\n", measured[i].name, m.bytes, m.bytes <= MARGIN ? " at most" : "");
-        refused = refused || m.refusal != 0;
+        printf("%-20s %7zu bytes of stack%s, the header says %zu\n", measured[i].name, m.bytes,
+               m.bytes <= MARGIN ? " at most" : "", measured[i].said);
+        wrong = wrong || m.refusal != 0 || m.bytes > measured[i].said;
     }
-    return refused;
+    return wrong;
 }

@@ -385,14 +385,21 @@ static void small_path(size_t n, int damage)
         spoil(0, damage);
 }
 
-// Appends to a path, with a new model that has been spoilt in so many ways.
+// Appends to the path in the buffers, each time as it was, new models that are spoilt in all ways.
 static void meet_append_models(uint64_t entries, size_t n)
 {
     struct model last = n > 0 ? list[n - 1] : model(10, 400);
     uint64_t sizes[] = {last.size + 9, last.size, last.size - 1, 0, 65536, UINT64_MAX, 65535};
     uint64_t losses[] = {last.loss - 1, last.loss, last.loss + 1, TOP + 1, UINT64_MAX, TOP, 0};
-    for (int i = 0; i < 49; i++)
+    static uint8_t kept[2][64];
+    size_t lens[] = {buffer(0).len, buffer(1).len};
+    for (int i = 0; i < 2; i++)
+        memcpy(kept[i], buffer(i).at, lens[i]);
+    for (int i = 0; i < 49; i++) {
         compare_append(entries, sizes[i / 7], losses[i % 7]);
+        memcpy(buffer(0).at, kept[0], lens[0]);
+        memcpy(buffer(1).at, kept[1], lens[1]);
+    }
 }
 
 static void meet_append(void)

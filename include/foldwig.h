@@ -19,7 +19,7 @@
  * call decides. A refused call answers 0 in all other fields and alters no byte that was lent to it.
  *
  * Memory. A buffer that a call writes must not overlap anything else that is lent to the same call. The library takes no memory
- * but the stack. The stack that a call needs is the same for every input; the figures below are rounded up.
+ * but the stack, of which a call needs as much as is said with it.
  *
  * Threads. Calls share no state and keep none, so any thread may call at any time, also while another one is in a call, as long
  * as no buffer that one of them writes is used by the other.
@@ -46,6 +46,14 @@ extern "C" {
 
 /* The least length of the scratch in bytes. */
 #define FOLDWIG_SCRATCH_LEN 31744
+
+/* The stack that each call needs, in bytes, rounded up. It does not depend on the input. */
+#define FOLDWIG_APPEND_STACK 66000
+#define FOLDWIG_BUILD_STACK 132000
+#define FOLDWIG_SELECT_STACK 66000
+#define FOLDWIG_BREAKPOINTS_STACK 132000
+#define FOLDWIG_SIGNAL_PATH_STACK 13000
+#define FOLDWIG_SPLIT_STACK 15000
 
 /* The widths of items in bytes. */
 #define FOLDWIG_SAMPLE_LEN 2
@@ -122,7 +130,7 @@ struct foldwig_split_result {
  * no longer be the cheapest, puts the model behind those that stay, and zeros the places from the new end to the old one.
  * All other places stay. 0 entries mean an empty path, whatever the buffers hold.
  * Refusals, in order: 11, 8, 5, 6, 7, 9. The buffers need places for the path as it is afterwards, dropped entries not counted.
- * Stack: STACK_APPEND bytes.
+ * Stack: 66,000 bytes.
  */
 struct foldwig_path_result foldwig_append(uint8_t *sizes, size_t sizes_len, uint8_t *losses, size_t losses_len, uint64_t entries,
                                           uint64_t size, uint64_t loss);
@@ -132,7 +140,7 @@ struct foldwig_path_result foldwig_append(uint8_t *sizes, size_t sizes_len, uint
  * models; the longer list tells how many there are, and a model without its size or its loss is a bad one. The path is written
  * to the front of path_sizes and path_losses, with zeros behind it as far as the number of models. All other places stay.
  * Refusals, in order: 11, 1, 2, then at the first bad model 5, 6 or 7, then 9. The buffers need a place for each model.
- * Stack: STACK_BUILD bytes.
+ * Stack: 132,000 bytes.
  */
 struct foldwig_path_result foldwig_build(const uint8_t *sizes, size_t sizes_len, const uint8_t *losses, size_t losses_len,
                                          uint8_t *path_sizes, size_t path_sizes_len, uint8_t *path_losses,
@@ -143,7 +151,7 @@ struct foldwig_path_result foldwig_build(const uint8_t *sizes, size_t sizes_len,
  * one as long as that costs less, where a model costs q * loss + p * size. On a path that the library made this is the cheapest
  * of all its models, and the smallest one of several. It writes nothing.
  * Refusals, in order: 11, 8, 10, 4.
- * Stack: STACK_SELECT bytes.
+ * Stack: 66,000 bytes.
  */
 struct foldwig_select_result foldwig_select(const uint8_t *sizes, size_t sizes_len, const uint8_t *losses, size_t losses_len,
                                             uint64_t entries, uint64_t p, uint64_t q);
@@ -153,7 +161,7 @@ struct foldwig_select_result foldwig_select(const uint8_t *sizes, size_t sizes_l
  * not reduced, and stands at the front of numerators and denominators in the order of the entries. All other places stay.
  * A path of one entry or of none has no breakpoint, and the count is then 0.
  * Refusals, in order: 11, 8, 9. The buffers need a place for each breakpoint.
- * Stack: STACK_BREAKPOINTS bytes.
+ * Stack: 132,000 bytes.
  */
 struct foldwig_breakpoints_result foldwig_breakpoints(const uint8_t *sizes, size_t sizes_len, const uint8_t *losses,
                                                       size_t losses_len, uint64_t entries, uint8_t *numerators,
@@ -166,7 +174,7 @@ struct foldwig_breakpoints_result foldwig_breakpoints(const uint8_t *sizes, size
  * places stay. The scratch may hold anything before, and every byte of it is zero afterwards.
  * Refusals, in order: 11, 1, 2, 3, 9. The buffers need as many places as the smaller of max_segments and the number of samples,
  * and the scratch FOLDWIG_SCRATCH_LEN bytes.
- * Stack: STACK_SIGNAL_PATH bytes.
+ * Stack: 13,000 bytes.
  */
 struct foldwig_signal_path_result foldwig_signal_path(const uint8_t *samples, size_t samples_len, uint64_t max_segments,
                                                       uint8_t *path_sizes, size_t path_sizes_len, uint8_t *path_losses,
@@ -179,7 +187,7 @@ struct foldwig_signal_path_result foldwig_signal_path(const uint8_t *samples, si
  * rest of both stays. The path of the signal and the scratch are as foldwig_signal_path leaves them.
  * Refusals, in order: 11, 1, 2, 3, 4, 9. All four buffers need as many places as the smaller of max_segments and the number of
  * samples, even if fewer segments come out, and the scratch FOLDWIG_SCRATCH_LEN bytes.
- * Stack: STACK_SPLIT bytes.
+ * Stack: 15,000 bytes.
  */
 struct foldwig_split_result foldwig_split(const uint8_t *samples, size_t samples_len, uint64_t max_segments, uint64_t p,
                                           uint64_t q, uint8_t *starts, size_t starts_len, uint8_t *levels, size_t levels_len,
