@@ -6,6 +6,7 @@
 #include <inttypes.h>
 #include <stdio.h>
 #include <stdlib.h>
+#include <string.h>
 
 // The signal of the line so far, two bytes to a sample, and the number of its samples.
 struct line {
@@ -56,13 +57,15 @@ static int keep(struct line *line, long sample)
     return 1;
 }
 
-static void keep_all(struct line *line)
+// Keeps all samples of the input. It answers 0 if something else than whole numbers stands there.
+static int keep_all(struct line *line)
 {
     unsigned long lost = 0;
     long sample;
     while (scanf("%ld", &sample) == 1)
         lost += !keep(line, sample);
     printf("samples kept: %zu, not kept: %lu\n", line->count, lost);
+    return feof(stdin);
 }
 
 // Prints the penalties at which an entry is the cheapest: from the breakpoint behind it on, and below the one before it.
@@ -135,15 +138,27 @@ static int split(const struct line *line, struct path *path, uint64_t p, uint64_
     return 1;
 }
 
+// Whether penalties are given, all of them in decimal digits. Numbers that are too large are left to the library to refuse.
+static int are_penalties(int argc, char **argv)
+{
+    for (int i = 1; i < argc; i++)
+        if (argv[i][0] == 0 || argv[i][strspn(argv[i], "0123456789")] != 0)
+            return 0;
+    return argc >= 3 && argc % 2 == 1;
+}
+
 int main(int argc, char **argv)
 {
     static struct line line;
     static struct path path;
-    if (argc < 3 || argc % 2 == 0) {
+    if (!are_penalties(argc, argv)) {
         fprintf(stderr, "usage: controller P Q [P Q ...] < SAMPLES\n");
         return 2;
     }
-    keep_all(&line);
+    if (!keep_all(&line)) {
+        fprintf(stderr, "controller: a sample is no whole number\n");
+        return 2;
+    }
     if (!close_harvest(&line, &path))
         return 1;
     for (int i = 1; i < argc; i += 2)

@@ -299,8 +299,7 @@ struct foldwig_signal_path_result compare_signal_path(uint64_t max_segments)
     struct foldwig_signal_path_result got, wanted;
     unsigned causes;
     lend_all(SIGNAL_PATH);
-    got = foldwig_signal_path(LENT(0), max_segments, LENT(1), LENT(2),
-                              LENT(3));
+    got = foldwig_signal_path(LENT(0), max_segments, LENT(1), LENT(2), LENT(3));
     wanted = reference_signal_path(buffer(0), max_segments, buffer(1), buffer(2), buffer(3), &causes);
     struct answers a = {1, 2, {max_segments, 0, 0}, {got.refusal, got.entries, 0, 0}, {wanted.refusal, wanted.entries, 0, 0}};
     check(SIGNAL_PATH, &a, causes);
@@ -312,8 +311,7 @@ struct foldwig_split_result compare_split(uint64_t max_segments, uint64_t p, uin
     struct foldwig_split_result got, wanted;
     unsigned causes;
     lend_all(SPLIT);
-    got = foldwig_split(LENT(0), max_segments, p, q, LENT(1), LENT(2), LENT(3), LENT(4),
-                        LENT(5));
+    got = foldwig_split(LENT(0), max_segments, p, q, LENT(1), LENT(2), LENT(3), LENT(4), LENT(5));
     wanted = reference_split(buffer(0), max_segments, p, q, buffer(1), buffer(2), buffer(3), buffer(4), buffer(5), &causes);
     struct answers a = {3,
                         4,
@@ -328,7 +326,8 @@ struct foldwig_split_result compare_split(uint64_t max_segments, uint64_t p, uin
 
 // The refusals of each call in their order, ended by 0.
 static const int orders[CALLS][8] = {
-    {11, 8, 5, 6, 7, 9, 0}, {11, 1, 2, 5, 6, 7, 9, 0}, {11, 8, 10, 4, 0}, {11, 8, 9, 0}, {11, 1, 2, 3, 9, 0}, {11, 1, 2, 3, 4, 9, 0},
+    {11, 8, 5, 6, 7, 9, 0}, {11, 1, 2, 5, 6, 7, 9, 0}, {11, 8, 10, 4, 0},
+    {11, 8, 9, 0},          {11, 1, 2, 3, 9, 0},       {11, 1, 2, 3, 4, 9, 0},
 };
 
 // Whether two causes of a call can hold at once. A list can't be both empty and too long, an empty build has no model that is bad

@@ -304,7 +304,8 @@ struct foldwig_path_result reference_build(struct bytes sizes, struct bytes loss
     struct foldwig_path_result r = {0, 0, 0};
     size_t n = FAULT == 17 ? places(sizes, losses) : larger(sizes.len / 2, losses.len / 8);
     size_t room = places(path_sizes, path_losses);
-    *causes = cause_if(11, odd_length(sizes, 2) || odd_length(losses, 8) || odd_length(path_sizes, 2) || odd_length(path_losses, 8));
+    *causes = cause_if(11, odd_length(sizes, 2) || odd_length(losses, 8));
+    *causes |= cause_if(11, odd_length(path_sizes, 2) || odd_length(path_losses, 8));
     *causes |= cause_if(1, n == 0) | cause_if(2, n > MAX_MODELS);
     *causes |= first_bad_causes(sizes, losses, n) | cause_if(9, FAULT != 8 && room < n);
     r.refusal = first_of(*causes, order);
@@ -358,7 +359,8 @@ struct foldwig_breakpoints_result reference_breakpoints(struct bytes sizes, stru
     static const int order[] = {8, 9, 0};
     struct foldwig_breakpoints_result r = {0, 0};
     uint64_t count = entries == 0 ? 0 : entries - 1;
-    *causes = cause_if(11, odd_length(sizes, 2) || odd_length(losses, 8) || odd_length(numerators, 8) || odd_length(denominators, 2));
+    *causes = cause_if(11, odd_length(sizes, 2) || odd_length(losses, 8));
+    *causes |= cause_if(11, odd_length(numerators, 8) || odd_length(denominators, 2));
     *causes |= cause_if(8, bad_path(sizes, losses, entries)) | cause_if(9, places(denominators, numerators) < count);
     r.refusal = first_of(*causes, order);
     if (r.refusal != 0)

@@ -776,9 +776,9 @@ int main(int argc, char **argv)
     random_lists(30000);
     random_histories(6000);
     meet_signals();
-    short_signals(50000);
+    short_signals(80000);
     long_signals(3000, 40);
-    long_signals(60, 512);
+    long_signals(150, 512);
     full_paths();
     small_stacks();
     two_at_once();
