@@ -40,7 +40,8 @@ static uint64_t call_append(void)
 
 static uint64_t call_build(void)
 {
-    return foldwig_build(sizes, sizeof sizes, losses, sizeof losses, path_sizes, sizeof path_sizes, path_losses, sizeof path_losses)
+    return foldwig_build(sizes, sizeof sizes, losses, sizeof losses, path_sizes, sizeof path_sizes, path_losses,
+                         sizeof path_losses)
         .refusal;
 }
 

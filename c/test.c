@@ -1,6 +1,7 @@
 // Compares the six calls with the reference: on worked figures, on random and tied inputs, at and past every limit, on damaged
 // paths, with lists of unequal and of odd length, and with every pair of refusal causes that can meet.
 // Usage: test [SEED]
+// A seed leads to the same calls again if the same compiler is used.
 #define _DEFAULT_SOURCE
 #include "lent.h"
 #include <pthread.h>
@@ -353,9 +354,12 @@ static void short_signals(int turns)
 
 static void long_signals(int turns, size_t longest)
 {
-    for (int turn = 0; turn < turns; turn++)
-        compare_signal(longest - below(one_in(2) ? 1 : longest / 2), (enum drawing)below(DRAWINGS), one_in(2) ? 32 : 1 + below(32),
-                       one_in(2) ? below(2000) : below(TOP), 1 + below(one_in(2) ? 9 : 65535));
+    for (int turn = 0; turn < turns; turn++) {
+        size_t n = longest - below(one_in(2) ? 1 : longest / 2);
+        uint64_t limit = one_in(2) ? 32 : 1 + below(32);
+        uint64_t p = one_in(2) ? below(2000) : below(TOP), q = 1 + below(one_in(2) ? 9 : 65535);
+        compare_signal(n, (enum drawing)below(DRAWINGS), limit, p, q);
+    }
 }
 
 // ---- Refusals: the causes of each call are brought together in all ways
