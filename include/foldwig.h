@@ -19,7 +19,7 @@
  * call decides. A refused call answers 0 in all other fields and alters no byte that was lent to it.
  *
  * Memory. A buffer that a call writes must not overlap anything else that is lent to the same call. The library takes no memory
- * but the stack, of which a call needs as much as is said with it.
+ * but the stack, of which a call takes at most as much as is said with it.
  *
  * Threads. Calls share no state and keep none, so any thread may call at any time, also while another one is in a call, as long
  * as no buffer that one of them writes is used by the other.
@@ -47,7 +47,7 @@ extern "C" {
 /* The least length of the scratch in bytes. */
 #define FOLDWIG_SCRATCH_LEN 31744
 
-/* The stack that each call needs, in bytes, rounded up. It does not depend on the input. */
+/* The most stack that each call takes, in bytes, as measured by c/stack.c and rounded up. */
 #define FOLDWIG_APPEND_STACK 66000
 #define FOLDWIG_BUILD_STACK 132000
 #define FOLDWIG_SELECT_STACK 66000
