@@ -1,0 +1,388 @@
+#define _DEFAULT_SOURCE
+#include "lent.h"
+#include <stdio.h>
+#include <stdlib.h>
+#include <string.h>
+#include <sys/mman.h>
+
+enum { GUARD = 64, GUARD_BYTE = 0xa7, MOST_MISMATCHES = 10 };
+
+// How many byte strings each call is lent, and how many of these, the first ones, it only reads.
+static const int lent_to[CALLS] = {2, 4, 2, 4, 4, 6};
+static const int only_read[CALLS] = {0, 2, 2, 2, 1, 1};
+
+// A buffer: pages that can be written between two that can't be touched, where its bytes stand in them, the address that the call
+// gets, which may be null if there are no bytes, and the copy.
+struct lent {
+    uint8_t *pages;
+    uint8_t *at;
+    uint8_t *given;
+    size_t len;
+    uint8_t copy[MOST_BYTES];
+};
+
+static struct lent lent[BUFFERS];
+static uint64_t state;
+static unsigned long calls[CALLS], mismatches;
+static unsigned long refusals[CALLS][FOLDWIG_REFUSALS];             // how often a call answered a number
+static unsigned long met[CALLS][FOLDWIG_REFUSALS][FOLDWIG_REFUSALS];    // how often two causes held at once
+static unsigned long nulls[CALLS][BUFFERS];                         // how often a byte string was lent as null
+static const char *const names[CALLS] = {"append", "build", "select", "breakpoints", "signal_path", "split"};
+
+// ---- Random numbers
+
+void seed_random(uint64_t seed)
+{
+    state = seed;
+}
+
+uint64_t random64(void)
+{
+    uint64_t z = state += UINT64_C(0x9e3779b97f4a7c15);
+    z = (z ^ z >> 30) * UINT64_C(0xbf58476d1ce4e5b9);
+    z = (z ^ z >> 27) * UINT64_C(0x94d049bb133111eb);
+    return z ^ z >> 31;
+}
+
+uint64_t below(uint64_t bound)
+{
+    return random64() % bound;
+}
+
+int one_in(uint64_t many)
+{
+    return below(many) == 0;
+}
+
+// ---- Buffers
+
+void map_buffers(void)
+{
+    size_t edge = 1 << 14;
+    for (int i = 0; i < BUFFERS; i++) {
+        uint8_t *all = mmap(NULL, MOST_BYTES + 2 * edge, PROT_NONE, MAP_PRIVATE | MAP_ANONYMOUS, -1, 0);
+        if (all == MAP_FAILED || mprotect(all + edge, MOST_BYTES, PROT_READ | PROT_WRITE) != 0) {
+            perror("mapping the buffers");
+            exit(2);
+        }
+        lent[i].pages = all + edge;
+    }
+}
+
+struct bytes buffer(int i)
+{
+    struct bytes b = {lent[i].copy, lent[i].len};
+    return b;
+}
+
+struct bytes fresh(int i, size_t len)
+{
+    if (len > MOST_BYTES) {
+        fprintf(stderr, "a buffer of %zu bytes is asked for\n", len);
+        exit(2);
+    }
+    lent[i].len = len;
+    for (size_t j = 0; j < len; j += 8) {
+        uint64_t r = random64();
+        memcpy(lent[i].copy + j, &r, len - j < 8 ? len - j : 8);
+    }
+    return buffer(i);
+}
+
+// How many guard bytes stand before a buffer, and how many behind it.
+static size_t guard_before(const struct lent *l)
+{
+    size_t free = (size_t)(l->at - l->pages);
+    return free < GUARD ? free : GUARD;
+}
+
+static size_t guard_behind(const struct lent *l)
+{
+    size_t free = MOST_BYTES - (size_t)(l->at - l->pages) - l->len;
+    return free < GUARD ? free : GUARD;
+}
+
+// Lends a buffer: flush against the page behind it, flush against the one before it, or somewhere between.
+static void lend(struct lent *l)
+{
+    size_t free = MOST_BYTES - l->len;
+    uint64_t place = below(4);
+    l->at = place < 2 ? l->pages + free : place == 2 ? l->pages : l->pages + below(free < 200 ? free + 1 : 200);
+    l->given = l->len == 0 && one_in(2) ? NULL : l->at;
+    memcpy(l->at, l->copy, l->len);
+    memset(l->at - guard_before(l), GUARD_BYTE, guard_before(l));
+    memset(l->at + l->len, GUARD_BYTE, guard_behind(l));
+}
+
+// Lets the pages of what a call only reads be written, or not.
+static void protect(enum call call, int protection)
+{
+    for (int i = 0; i < only_read[call]; i++)
+        if (mprotect(lent[i].pages, MOST_BYTES, protection) != 0) {
+            perror("protecting the buffers");
+            exit(2);
+        }
+}
+
+static int is_protected;
+
+// Lends all byte strings of a call. Now and then those that it only reads can't be written.
+static void lend_all(enum call call)
+{
+    for (int i = 0; i < lent_to[call]; i++) {
+        lend(&lent[i]);
+        nulls[call][i] += lent[i].given == NULL;
+    }
+    is_protected = one_in(16);
+    if (is_protected)
+        protect(call, PROT_READ);
+}
+
+static void take_back(enum call call)
+{
+    if (is_protected)
+        protect(call, PROT_READ | PROT_WRITE);
+}
+
+static int guards_stand(const uint8_t *at, size_t count)
+{
+    for (size_t i = 0; i < count; i++)
+        if (at[i] != GUARD_BYTE)
+            return 0;
+    return 1;
+}
+
+// ---- Mismatches
+
+static void count_mismatch(void)
+{
+    if (++mismatches >= MOST_MISMATCHES) {
+        printf("stopped at mismatches: %lu\n", mismatches);
+        exit(1);
+    }
+}
+
+void expect(int so, const char *what)
+{
+    if (so)
+        return;
+    printf("mismatch: %s\n", what);
+    count_mismatch();
+}
+
+static void check_buffer(enum call call, int i)
+{
+    const struct lent *l = &lent[i];
+    size_t j = 0;
+    if (!guards_stand(l->at - guard_before(l), guard_before(l)) || !guards_stand(l->at + l->len, guard_behind(l))) {
+        printf("mismatch: %s wrote beside its byte string %d\n", names[call], i + 1);
+        count_mismatch();
+    }
+    if (memcmp(l->at, l->copy, l->len) == 0)
+        return;
+    while (l->at[j] == l->copy[j])
+        j++;
+    printf("mismatch: %s, byte %zu of byte string %d, of %zu bytes: %u, expected %u\n", names[call], j, i + 1, l->len, l->at[j],
+           l->copy[j]);
+    count_mismatch();
+}
+
+static void print_numbers(const char *what, const uint64_t *numbers, int count)
+{
+    printf("%s", what);
+    for (int i = 0; i < count; i++)
+        printf(" %llu", (unsigned long long)numbers[i]);
+}
+
+// What a call was given beside its byte strings, and what it and the reference answered.
+struct answers {
+    int numbers, fields;
+    uint64_t given[3], got[4], wanted[4];
+};
+
+static void print_answers(enum call call, const struct answers *a)
+{
+    printf("mismatch: %s", names[call]);
+    print_numbers(" answers", a->got, a->fields);
+    print_numbers(", expected", a->wanted, a->fields);
+    print_numbers("; given", a->given, a->numbers);
+    printf(" and lengths");
+    for (int i = 0; i < lent_to[call]; i++)
+        printf(" %zu", lent[i].len);
+    printf("\n");
+}
+
+// Compares the fields of two answers and the buffers, and counts the call and its causes.
+static void check(enum call call, const struct answers *answers, unsigned causes)
+{
+    take_back(call);
+    calls[call]++;
+    if (memcmp(answers->got, answers->wanted, (size_t)answers->fields * sizeof answers->got[0]) != 0) {
+        print_answers(call, answers);
+        count_mismatch();
+    }
+    for (int i = 0; i < lent_to[call]; i++)
+        check_buffer(call, i);
+    if (answers->wanted[0] < FOLDWIG_REFUSALS)
+        refusals[call][answers->wanted[0]]++;
+    for (int a = 1; a < FOLDWIG_REFUSALS; a++)
+        for (int b = a + 1; b < FOLDWIG_REFUSALS; b++)
+            met[call][a][b] += causes >> a & causes >> b & 1;
+}
+
+// ---- The calls. LENT is a byte string as the library gets it, a pointer and a length.
+
+#define LENT(i) lent[i].given, lent[i].len
+
+struct foldwig_path_result compare_append(uint64_t entries, uint64_t size, uint64_t loss)
+{
+    struct foldwig_path_result got, wanted;
+    unsigned causes;
+    lend_all(APPEND);
+    got = foldwig_append(LENT(0), LENT(1), entries, size, loss);
+    wanted = reference_append(buffer(0), buffer(1), entries, size, loss, &causes);
+    struct answers a = {3,
+                        3,
+                        {entries, size, loss},
+                        {got.refusal, got.entries, got.tests, 0},
+                        {wanted.refusal, wanted.entries, wanted.tests, 0}};
+    check(APPEND, &a, causes);
+    return wanted;
+}
+
+struct foldwig_path_result compare_build(void)
+{
+    struct foldwig_path_result got, wanted;
+    unsigned causes;
+    lend_all(BUILD);
+    got = foldwig_build(LENT(0), LENT(1), LENT(2), LENT(3));
+    wanted = reference_build(buffer(0), buffer(1), buffer(2), buffer(3), &causes);
+    struct answers a = {0,
+                        3,
+                        {0, 0, 0},
+                        {got.refusal, got.entries, got.tests, 0},
+                        {wanted.refusal, wanted.entries, wanted.tests, 0}};
+    check(BUILD, &a, causes);
+    return wanted;
+}
+
+struct foldwig_select_result compare_select(uint64_t entries, uint64_t p, uint64_t q)
+{
+    struct foldwig_select_result got, wanted;
+    unsigned causes;
+    lend_all(SELECT);
+    got = foldwig_select(LENT(0), LENT(1), entries, p, q);
+    wanted = reference_select(buffer(0), buffer(1), entries, p, q, &causes);
+    struct answers a = {3,
+                        4,
+                        {entries, p, q},
+                        {got.refusal, got.index, got.size, got.loss},
+                        {wanted.refusal, wanted.index, wanted.size, wanted.loss}};
+    check(SELECT, &a, causes);
+    return wanted;
+}
+
+struct foldwig_breakpoints_result compare_breakpoints(uint64_t entries)
+{
+    struct foldwig_breakpoints_result got, wanted;
+    unsigned causes;
+    lend_all(BREAKPOINTS);
+    got = foldwig_breakpoints(LENT(0), LENT(1), entries, LENT(2), LENT(3));
+    wanted = reference_breakpoints(buffer(0), buffer(1), entries, buffer(2), buffer(3), &causes);
+    struct answers a = {1, 2, {entries, 0, 0}, {got.refusal, got.count, 0, 0}, {wanted.refusal, wanted.count, 0, 0}};
+    check(BREAKPOINTS, &a, causes);
+    return wanted;
+}
+
+struct foldwig_signal_path_result compare_signal_path(uint64_t max_segments)
+{
+    struct foldwig_signal_path_result got, wanted;
+    unsigned causes;
+    lend_all(SIGNAL_PATH);
+    got = foldwig_signal_path(LENT(0), max_segments, LENT(1), LENT(2), LENT(3));
+    wanted = reference_signal_path(buffer(0), max_segments, buffer(1), buffer(2), buffer(3), &causes);
+    struct answers a = {1, 2, {max_segments, 0, 0}, {got.refusal, got.entries, 0, 0}, {wanted.refusal, wanted.entries, 0, 0}};
+    check(SIGNAL_PATH, &a, causes);
+    return wanted;
+}
+
+struct foldwig_split_result compare_split(uint64_t max_segments, uint64_t p, uint64_t q)
+{
+    struct foldwig_split_result got, wanted;
+    unsigned causes;
+    lend_all(SPLIT);
+    got = foldwig_split(LENT(0), max_segments, p, q, LENT(1), LENT(2), LENT(3), LENT(4), LENT(5));
+    wanted = reference_split(buffer(0), max_segments, p, q, buffer(1), buffer(2), buffer(3), buffer(4), buffer(5), &causes);
+    struct answers a = {3,
+                        4,
+                        {max_segments, p, q},
+                        {got.refusal, got.segments, got.loss, got.entries},
+                        {wanted.refusal, wanted.segments, wanted.loss, wanted.entries}};
+    check(SPLIT, &a, causes);
+    return wanted;
+}
+
+// ---- The summary
+
+// The refusals of each call in their order, ended by 0.
+static const int orders[CALLS][8] = {
+    {11, 8, 5, 6, 7, 9, 0}, {11, 1, 2, 5, 6, 7, 9, 0}, {11, 8, 10, 4, 0},
+    {11, 8, 9, 0},          {11, 1, 2, 3, 9, 0},       {11, 1, 2, 3, 4, 9, 0},
+};
+
+// Whether two causes of a call can hold at once. A list can't be both empty and too long, an empty build has no model that is bad
+// and needs no room, and an empty path is never a bad one.
+static int can_meet(enum call call, int a, int b)
+{
+    if (a == 1 && b == 2)
+        return 0;
+    if (call == BUILD && a == 1)
+        return b == 11;
+    return !(a == 8 && b == 10);
+}
+
+// Counts what of a call was never seen, and prints it.
+static int unseen(enum call call)
+{
+    int count = 0;
+    for (int i = 0; i < lent_to[call]; i++)
+        if (nulls[call][i] == 0) {
+            printf("not seen: %s with null as its byte string %d\n", names[call], i + 1);
+            count++;
+        }
+    for (const int *a = orders[call]; *a != 0; a++) {
+        if (refusals[call][*a] == 0) {
+            printf("not seen: %s with refusal %d\n", names[call], *a);
+            count++;
+        }
+        for (const int *b = orders[call]; *b != 0; b++)
+            if (*a < *b && can_meet(call, *a, *b) && met[call][*a][*b] == 0) {
+                printf("not seen: %s with causes %d and %d at once\n", names[call], *a, *b);
+                count++;
+            }
+    }
+    return count;
+}
+
+static int pairs_met(enum call call)
+{
+    int count = 0;
+    for (int a = 1; a < FOLDWIG_REFUSALS; a++)
+        for (int b = a + 1; b < FOLDWIG_REFUSALS; b++)
+            count += met[call][a][b] > 0;
+    return count;
+}
+
+int summary(void)
+{
+    unsigned long all = 0;
+    int missing = 0;
+    for (int call = 0; call < CALLS; call++) {
+        printf("%-12s %7lu calls, %7lu accepted, %2d pairs of causes\n", names[call], calls[call], refusals[call][0],
+               pairs_met((enum call)call));
+        all += calls[call];
+        missing += unseen((enum call)call);
+    }
+    printf("calls compared: %lu, mismatches: %lu\n", all, mismatches);
+    return mismatches > 0 || missing > 0;
+}

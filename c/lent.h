@@ -1,0 +1,47 @@
+// Buffers that are lent to a call and looked at afterwards, random numbers, and the comparison of each call with the reference.
+//
+// A test fills buffers 0, 1 and so on, in the order of the call's byte strings, and then compares the call. The library gets
+// each buffer between pages that can't be read or written, often flush against one of them, with guard bytes in what is left of
+// its own pages; now and then what it only reads can't be written. The reference gets a copy. Then every byte of all buffers, the
+// guard bytes, and the answers are compared.
+#ifndef LENT_H
+#define LENT_H
+
+#include "reference.h"
+
+enum { BUFFERS = 6, MOST_BYTES = 1 << 16 };
+
+// The six calls, as the tallies number them.
+enum call { APPEND, BUILD, SELECT, BREAKPOINTS, SIGNAL_PATH, SPLIT, CALLS };
+
+// Maps the buffers. A test has to do this once.
+void map_buffers(void);
+
+// Gives a buffer so many bytes, all random, and answers the copy that is to be filled.
+struct bytes fresh(int buffer, size_t len);
+
+// The buffer as it is, for instance as the latest call left it.
+struct bytes buffer(int buffer);
+
+// Random numbers: 64 bits; 0 to below - 1; 1 in so many.
+void seed_random(uint64_t seed);
+uint64_t random64(void);
+uint64_t below(uint64_t bound);
+int one_in(uint64_t many);
+
+// Each makes one call with the buffers and compares it.
+struct foldwig_path_result compare_append(uint64_t entries, uint64_t size, uint64_t loss);
+struct foldwig_path_result compare_build(void);
+struct foldwig_select_result compare_select(uint64_t entries, uint64_t p, uint64_t q);
+struct foldwig_breakpoints_result compare_breakpoints(uint64_t entries);
+struct foldwig_signal_path_result compare_signal_path(uint64_t max_segments);
+struct foldwig_split_result compare_split(uint64_t max_segments, uint64_t p, uint64_t q);
+
+// Counts a mismatch if something that must be so is not so. After ten mismatches the test ends.
+void expect(int so, const char *what);
+
+// Prints what was compared, and answers the status of the program: 0 if nothing differed and if every refusal, every pair of
+// causes that can meet and null for every byte string was seen.
+int summary(void);
+
+#endif

@@ -1,0 +1,682 @@
+// The reference. Its tables are static, so that it needs little stack; one thread at a time may use it.
+#include "reference.h"
+#include <string.h>
+
+enum { MAX_SAMPLES = 512, MAX_SEGMENTS = 32, MAX_MODELS = 4096, MAX_TRIED = 12 };
+
+static const uint64_t TWO_44 = (uint64_t)1 << 44;
+
+size_t reference_tries_up_to = 9;
+
+// ---- Items of byte strings
+
+static size_t byte_place(size_t width, size_t i, size_t j)
+{
+    return FAULT == 7 ? i * width + (width - 1 - j) : i * width + j;
+}
+
+uint64_t get_item(struct bytes b, size_t width, size_t i)
+{
+    uint64_t value = 0;
+    for (size_t j = 0; j < width; j++)
+        value += (uint64_t)b.at[byte_place(width, i, j)] << (8 * j);
+    return value;
+}
+
+int64_t get_signed(struct bytes b, size_t i)
+{
+    int64_t value = (int64_t)get_item(b, 2, i);
+    return value < 32768 ? value : value - 65536;
+}
+
+void put_item(struct bytes b, size_t width, size_t i, uint64_t value)
+{
+    for (size_t j = 0; j < width; j++)
+        b.at[byte_place(width, i, j)] = (uint8_t)(value >> (8 * j));
+}
+
+static size_t smaller(size_t a, size_t b)
+{
+    return a < b ? a : b;
+}
+
+static size_t larger(size_t a, size_t b)
+{
+    return a < b ? b : a;
+}
+
+// How many items of two bytes and of eight bytes two byte strings both have.
+static size_t places(struct bytes twos, struct bytes eights)
+{
+    return smaller(twos.len / 2, eights.len / 8);
+}
+
+// ---- Causes
+
+static unsigned cause_if(int number, int holds)
+{
+    return holds ? 1u << number : 0;
+}
+
+static int holds(unsigned causes, int number)
+{
+    return (causes >> number & 1) != 0;
+}
+
+// The first number of an order whose cause holds, or 0. An order ends with 0.
+static uint64_t first_of(unsigned causes, const int *order)
+{
+    if (FAULT != 11 && holds(causes, 11))
+        return 11;
+    for (; *order != 0; order++)
+        if (holds(causes, *order))
+            return (uint64_t)*order;
+    return FAULT == 11 && holds(causes, 11) ? 11 : 0;
+}
+
+static int odd_length(struct bytes b, size_t width)
+{
+    return b.len % width != 0;
+}
+
+static int bad_penalty(uint64_t p, uint64_t q)
+{
+    return p > TWO_44 || q == 0 || q > 65535;
+}
+
+static int bad_model(struct model m)
+{
+    return m.size == 0 || m.size > 65535 || m.loss > TWO_44 || (FAULT == 18 && m.loss == TWO_44);
+}
+
+// ---- Penalties
+
+struct fraction {
+    uint64_t numerator;
+    uint64_t denominator;
+};
+
+static int less(struct fraction a, struct fraction b)
+{
+    return a.numerator * b.denominator < b.numerator * a.denominator;
+}
+
+// The penalty at which two models cost the same; the second one has the larger size and no larger loss.
+static struct fraction between(struct model a, struct model b)
+{
+    struct fraction f = {a.loss - b.loss, b.size - a.size};
+    return f;
+}
+
+// Model j is strictly cheaper than a smaller one below the breakpoint of the two, and than a larger one above it. So it can win
+// if the least of the breakpoints with smaller models is above the greatest of those with larger ones, and above 0.
+int can_win(const struct model *models, size_t n, size_t j)
+{
+    struct fraction high = {1, 0};
+    struct fraction low = {0, 1};
+    for (size_t i = 0; i < j; i++) {
+        struct fraction f = between(models[i], models[j]);
+        if (i == 0 || less(f, high))
+            high = f;
+    }
+    for (size_t i = j + 1; i < n; i++) {
+        struct fraction f = between(models[j], models[i]);
+        if (less(low, f))
+            low = f;
+    }
+    if (j == 0 || less(low, high))
+        return 1;
+    if (FAULT == 1 && !less(high, low) && high.numerator > 0)
+        return 1;
+    return FAULT == 10 && high.numerator == 0 && low.numerator == 0;
+}
+
+static uint64_t cost(struct model m, uint64_t p, uint64_t q)
+{
+    return q * m.loss + p * m.size;
+}
+
+// Whether a later model is to be taken instead of an earlier one.
+static int better(uint64_t later, uint64_t earlier)
+{
+    return FAULT == 2 ? later <= earlier : later < earlier;
+}
+
+size_t cheapest(const struct model *models, size_t n, uint64_t p, uint64_t q)
+{
+    size_t best = 0;
+    for (size_t i = 1; i < n; i++)
+        if (better(cost(models[i], p, q), cost(models[best], p, q)))
+            best = i;
+    return best;
+}
+
+// ---- Paths
+
+static struct model models[MAX_MODELS + 1];     // the models of a build, or the entries of a path
+static struct model path[MAX_MODELS + 1];       // the path that a call makes
+
+static struct model model_at(struct bytes sizes, struct bytes losses, size_t i)
+{
+    struct model m = {get_item(sizes, 2, i), get_item(losses, 8, i)};
+    return m;
+}
+
+static void put_model(struct bytes sizes, struct bytes losses, size_t i, struct model m)
+{
+    put_item(sizes, 2, i, m.size);
+    put_item(losses, 8, i, m.loss);
+}
+
+// Puts the path's entries to the front of two buffers, and zeros from their end to another.
+static void put_path(struct bytes sizes, struct bytes losses, size_t entries, size_t end)
+{
+    struct model zero = {0, 0};
+    for (size_t i = 0; i < entries; i++)
+        put_model(sizes, losses, i, path[i]);
+    if (FAULT == 6 && end > 0)
+        end--;
+    for (size_t i = entries; i < end; i++)
+        put_model(sizes, losses, i, zero);
+}
+
+// Makes the path of n models from those that can win, and answers its number of entries.
+static size_t winners(size_t n)
+{
+    size_t entries = 0;
+    for (size_t j = 0; j < n; j++)
+        if (can_win(models, n, j))
+            path[entries++] = models[j];
+    return entries;
+}
+
+// Reads a lent path into models; the cause of 8 holds if this can't be done.
+static int bad_path(struct bytes sizes, struct bytes losses, uint64_t entries)
+{
+    if (entries > places(sizes, losses) || entries > MAX_MODELS)
+        return 1;
+    for (size_t i = 0; i < entries; i++) {
+        models[i] = model_at(sizes, losses, i);
+        if (bad_model(models[i]))
+            return 1;
+        if (i > 0 && (models[i].size <= models[i - 1].size || models[i].loss >= models[i - 1].loss))
+            return 1;
+    }
+    return 0;
+}
+
+// Whether the test of a new model holds at an entry.
+static int test_holds(size_t entry, struct model new_model)
+{
+    struct fraction candidate, before;
+    if (entry == 0)
+        return 1;
+    candidate = between(models[entry], new_model);
+    before = between(models[entry - 1], models[entry]);
+    return FAULT == 1 ? !less(before, candidate) : less(candidate, before);
+}
+
+// How many of so many entries stay when a model is appended: those up to the last one at which the test holds.
+static size_t staying(size_t entries, struct model new_model)
+{
+    size_t stay = 0;
+    for (size_t i = 0; i < entries; i++)
+        if (test_holds(i, new_model))
+            stay = i + 1;
+    return stay;
+}
+
+// The causes that a new model has beside a last one, which is null if there is none.
+static unsigned model_causes(struct model m, const struct model *last)
+{
+    return cause_if(5, bad_model(m)) | cause_if(6, last && m.size <= last->size) | cause_if(7, last && m.loss >= last->loss);
+}
+
+// The causes of an append. After a bad path or with a bad model no entry counts as dropped.
+static unsigned append_causes(struct bytes sizes, struct bytes losses, uint64_t entries, struct model m)
+{
+    size_t room = smaller(places(sizes, losses), MAX_MODELS);
+    unsigned causes = cause_if(8, bad_path(sizes, losses, entries));
+    uint64_t stay = entries;
+    if (entries > 0 && entries <= places(sizes, losses)) {
+        struct model last = model_at(sizes, losses, entries - 1);
+        causes |= model_causes(m, &last);
+    } else {
+        causes |= model_causes(m, NULL);
+    }
+    if (causes == 0 && FAULT != 14)
+        stay = staying(entries, m);
+    return causes | cause_if(9, stay >= room) | cause_if(11, odd_length(sizes, 2) || odd_length(losses, 8));
+}
+
+struct foldwig_path_result reference_append(struct bytes sizes, struct bytes losses, uint64_t entries, uint64_t size,
+                                            uint64_t loss, unsigned *causes)
+{
+    static const int right[] = {8, 5, 6, 7, 9, 0};
+    static const int wrong[] = {5, 8, 6, 7, 9, 0};
+    struct model m = {size, loss};
+    struct foldwig_path_result r = {0, 0, 0};
+    size_t stay;
+    *causes = append_causes(sizes, losses, entries, m);
+    r.refusal = first_of(*causes, FAULT == 21 ? wrong : right);
+    if (r.refusal != 0)
+        return r;
+    stay = staying(entries, m);
+    memcpy(path, models, stay * sizeof path[0]);
+    path[stay] = m;
+    put_path(sizes, losses, stay + 1, entries);
+    r.entries = stay + 1;
+    r.tests = entries == 0 ? 0 : entries - stay + 1;
+    if (FAULT == 12 && stay == 1)
+        r.tests--;
+    return r;
+}
+
+// The causes of one of the models of a build, which may lack its size or its loss.
+static unsigned build_model_causes(struct bytes sizes, struct bytes losses, size_t i)
+{
+    struct model last;
+    if (i >= places(sizes, losses))
+        return 1u << 5;
+    if (i == 0)
+        return model_causes(model_at(sizes, losses, i), NULL);
+    last = model_at(sizes, losses, i - 1);
+    return model_causes(model_at(sizes, losses, i), &last);
+}
+
+// The causes of the first bad one of n models.
+static unsigned first_bad_causes(struct bytes sizes, struct bytes losses, size_t n)
+{
+    unsigned all = 0;
+    for (size_t i = 0; i < n; i++) {
+        unsigned causes = build_model_causes(sizes, losses, i);
+        if (causes != 0 && FAULT != 16)
+            return causes;
+        all |= causes;
+    }
+    return all;
+}
+
+struct foldwig_path_result reference_build(struct bytes sizes, struct bytes losses, struct bytes path_sizes,
+                                           struct bytes path_losses, unsigned *causes)
+{
+    static const int order[] = {1, 2, 5, 6, 7, 9, 0};
+    struct foldwig_path_result r = {0, 0, 0};
+    size_t n = FAULT == 17 ? places(sizes, losses) : larger(sizes.len / 2, losses.len / 8);
+    size_t room = places(path_sizes, path_losses);
+    *causes = cause_if(11, odd_length(sizes, 2) || odd_length(losses, 8));
+    *causes |= cause_if(11, odd_length(path_sizes, 2) || odd_length(path_losses, 8));
+    *causes |= cause_if(1, n == 0) | cause_if(2, n > MAX_MODELS);
+    *causes |= first_bad_causes(sizes, losses, n) | cause_if(9, FAULT != 8 && room < n);
+    r.refusal = first_of(*causes, order);
+    if (r.refusal != 0)
+        return r;
+    for (size_t i = 0; i < n; i++)
+        models[i] = model_at(sizes, losses, i);
+    r.entries = winners(n);
+    if (FAULT == 8 && room < r.entries) {
+        r.refusal = 9;
+        r.entries = 0;
+        return r;
+    }
+    r.tests = 2 * n - 1 - r.entries;
+    if (FAULT == 12 && n > 1)
+        r.tests--;
+    put_path(path_sizes, path_losses, r.entries, FAULT == 8 ? smaller(n, room) : n);
+    return r;
+}
+
+// ---- Selecting
+
+struct foldwig_select_result reference_select(struct bytes sizes, struct bytes losses, uint64_t entries, uint64_t p, uint64_t q,
+                                              unsigned *causes)
+{
+    static const int right[] = {8, 10, 4, 0};
+    static const int wrong[] = {8, 4, 10, 0};
+    struct foldwig_select_result r = {0, 0, 0, 0};
+    *causes = cause_if(11, odd_length(sizes, 2) || odd_length(losses, 8)) | cause_if(8, bad_path(sizes, losses, entries));
+    *causes |= cause_if(10, entries == 0) | cause_if(4, bad_penalty(p, q));
+    r.refusal = first_of(*causes, FAULT == 9 ? wrong : right);
+    if (r.refusal != 0)
+        return r;
+    while (r.index + 1 < entries && better(cost(models[r.index + 1], p, q), cost(models[r.index], p, q)))
+        r.index++;
+    if (FAULT == 23)
+        r.index = cheapest(models, entries, p, q);
+    r.size = models[r.index].size;
+    r.loss = models[r.index].loss;
+    return r;
+}
+
+static uint64_t common_divisor(uint64_t a, uint64_t b)
+{
+    return b == 0 ? a : common_divisor(b, a % b);
+}
+
+struct foldwig_breakpoints_result reference_breakpoints(struct bytes sizes, struct bytes losses, uint64_t entries,
+                                                        struct bytes numerators, struct bytes denominators, unsigned *causes)
+{
+    static const int order[] = {8, 9, 0};
+    struct foldwig_breakpoints_result r = {0, 0};
+    uint64_t count = entries == 0 ? 0 : entries - 1;
+    *causes = cause_if(11, odd_length(sizes, 2) || odd_length(losses, 8));
+    *causes |= cause_if(11, odd_length(numerators, 8) || odd_length(denominators, 2));
+    *causes |= cause_if(8, bad_path(sizes, losses, entries)) | cause_if(9, places(denominators, numerators) < count);
+    r.refusal = first_of(*causes, order);
+    if (r.refusal != 0)
+        return r;
+    for (size_t i = 0; i < count; i++) {
+        struct fraction f = between(models[i], models[i + 1]);
+        uint64_t by = FAULT == 15 ? common_divisor(f.numerator, f.denominator) : 1;
+        put_item(numerators, 8, i, f.numerator / by);
+        put_item(denominators, 2, i, f.denominator / by);
+    }
+    r.count = count;
+    return r;
+}
+
+// ---- Segments
+
+static int64_t samples_of[MAX_SAMPLES];         // the signal, from place 0 on
+
+// The whole number nearest to a mean, the lower one of two.
+static int64_t nearest(int64_t sum, int64_t n)
+{
+    int64_t best = sum / n - 1;
+    if (FAULT == 3 && sum < 0)
+        return sum / n + (2 * (sum % n) > n);
+    for (int64_t level = best + 1; level <= sum / n + 1; level++) {
+        int64_t far = n * level > sum ? n * level - sum : sum - n * level;
+        int64_t best_far = n * best > sum ? n * best - sum : sum - n * best;
+        if (far < best_far || (FAULT == 4 && far == best_far))
+            best = level;
+    }
+    return best;
+}
+
+static int64_t level_of(size_t first, size_t last)
+{
+    int64_t sum = 0;
+    for (size_t i = first; i <= last; i++)
+        sum += samples_of[i];
+    return nearest(sum, (int64_t)(last - first + 1));
+}
+
+// The loss of a segment at a level.
+static int64_t loss_at(size_t first, size_t last, int64_t level)
+{
+    int64_t loss = 0;
+    for (size_t i = first; i <= last; i++)
+        loss += (samples_of[i] - level) * (samples_of[i] - level);
+    return loss;
+}
+
+// The least loss of a segment of a short signal. If its samples are near each other, every level between them is tried.
+static int64_t tried_loss(size_t first, size_t last)
+{
+    int64_t low = samples_of[first], high = low, least;
+    for (size_t i = first; i <= last; i++) {
+        low = samples_of[i] < low ? samples_of[i] : low;
+        high = samples_of[i] > high ? samples_of[i] : high;
+    }
+    least = loss_at(first, last, level_of(first, last));
+    if (high - low > 100 || FAULT == 3)
+        return least;
+    least = loss_at(first, last, low);
+    for (int64_t level = low + 1; level <= high; level++)
+        if (loss_at(first, last, level) < least)
+            least = loss_at(first, last, level);
+    return least;
+}
+
+// ---- Segmentations. Place k of these two holds the one into k segments.
+
+static int64_t least_loss[MAX_SEGMENTS + 1];
+static uint16_t given_starts[MAX_SEGMENTS + 1][MAX_SEGMENTS];
+
+// The places at which the segments of a cutting start, from 0 on. Bit i of the mask cuts before place i + 1.
+static size_t starts_of_mask(unsigned mask, size_t n, uint16_t *starts)
+{
+    size_t count = 0;
+    starts[count++] = 0;
+    for (size_t i = 1; i < n; i++)
+        if (mask >> (i - 1) & 1)
+            starts[count++] = (uint16_t)i;
+    return count;
+}
+
+// Whether, from the last start back, the first difference of two lists of starts has the earlier start in the first list.
+static int earlier(const uint16_t *a, const uint16_t *b, size_t count)
+{
+    while (count > 0) {
+        count--;
+        if (a[count] != b[count])
+            return FAULT == 5 ? a[count] > b[count] : a[count] < b[count];
+    }
+    return 0;
+}
+
+// Tries all segmentations of a short signal into up to so many segments.
+static void try_all(size_t n, size_t largest)
+{
+    static int64_t loss[MAX_TRIED][MAX_TRIED];
+    for (size_t i = 0; i < n; i++)
+        for (size_t j = i; j < n; j++)
+            loss[i][j] = tried_loss(i, j);
+    for (size_t k = 1; k <= largest; k++)
+        least_loss[k] = INT64_MAX;
+    for (unsigned mask = 0; mask < 1u << (n - 1); mask++) {
+        uint16_t starts[MAX_TRIED];
+        size_t count = starts_of_mask(mask, n, starts);
+        int64_t sum = 0;
+        for (size_t s = 0; s < count; s++)
+            sum += loss[starts[s]][s + 1 < count ? (size_t)starts[s + 1] - 1 : n - 1];
+        if (count > largest || sum > least_loss[count])
+            continue;
+        if (sum < least_loss[count] || earlier(starts, given_starts[count], count)) {
+            least_loss[count] = sum;
+            memcpy(given_starts[count], starts, count * sizeof starts[0]);
+        }
+    }
+}
+
+static int64_t segment_loss[MAX_SAMPLES][MAX_SAMPLES];              // of the segment from one place to another
+static int64_t least_to[MAX_SEGMENTS + 1][MAX_SAMPLES];             // of so many segments that end at a place
+static uint16_t last_start[MAX_SEGMENTS + 1][MAX_SAMPLES];          // of so many segments that end at a place
+
+static void fill_segment_losses(size_t n)
+{
+    for (size_t i = 0; i < n; i++) {
+        int64_t sum = 0, squares = 0;
+        for (size_t j = i; j < n; j++) {
+            int64_t count = (int64_t)(j - i + 1), level;
+            sum += samples_of[j];
+            squares += samples_of[j] * samples_of[j];
+            level = nearest(sum, count);
+            segment_loss[i][j] = squares - 2 * level * sum + count * level * level;
+        }
+    }
+}
+
+// Finds the start of the last of k segments that end at a place, the earliest of the best ones.
+static void fill_place(size_t k, size_t end)
+{
+    least_to[k][end] = INT64_MAX;
+    for (size_t start = k - 1; start <= end; start++) {
+        int64_t sum = least_to[k - 1][start - 1] + segment_loss[start][end];
+        if (sum < least_to[k][end] || (FAULT == 5 && sum == least_to[k][end])) {
+            least_to[k][end] = sum;
+            last_start[k][end] = (uint16_t)start;
+        }
+    }
+}
+
+// Finds the least losses and the starts of a signal of any length by dynamic programming.
+static void programme(size_t n, size_t largest)
+{
+    fill_segment_losses(n);
+    for (size_t end = 0; end < n; end++) {
+        least_to[1][end] = segment_loss[0][end];
+        last_start[1][end] = 0;
+    }
+    for (size_t k = 2; k <= largest; k++)
+        for (size_t end = k - 1; end < n; end++)
+            fill_place(k, end);
+    for (size_t k = 1; k <= largest; k++) {
+        size_t end = n - 1;
+        least_loss[k] = least_to[k][n - 1];
+        for (size_t s = k; s > 0; s--) {
+            given_starts[k][s - 1] = last_start[s][end];
+            end = (size_t)last_start[s][end] - 1;
+        }
+    }
+}
+
+// The loss of k segments over n samples with the starts given.
+static int64_t loss_of_starts(size_t k, size_t n)
+{
+    int64_t sum = 0;
+    for (size_t s = 0; s < k; s++) {
+        size_t last = s + 1 < k ? (size_t)given_starts[k][s + 1] - 1 : n - 1;
+        sum += loss_at(given_starts[k][s], last, level_of(given_starts[k][s], last));
+    }
+    return sum;
+}
+
+// Puts a start among those of the size below, in order.
+static void add_start(size_t k, size_t start)
+{
+    size_t at = k - 1;
+    memcpy(given_starts[k], given_starts[k - 1], (k - 1) * sizeof given_starts[k][0]);
+    while (at > 0 && given_starts[k][at - 1] > start) {
+        given_starts[k][at] = given_starts[k][at - 1];
+        at--;
+    }
+    given_starts[k][at] = (uint16_t)start;
+}
+
+static int is_start(size_t k, size_t start)
+{
+    for (size_t s = 0; s < k; s++)
+        if (given_starts[k][s] == start)
+            return 1;
+    return 0;
+}
+
+// The planted fault 20: each size adds the best cut to those of the size below.
+static void cut_greedily(size_t n, size_t largest)
+{
+    given_starts[1][0] = 0;
+    least_loss[1] = loss_of_starts(1, n);
+    for (size_t k = 2; k <= largest; k++) {
+        size_t best = 0;
+        least_loss[k] = INT64_MAX;
+        for (size_t start = 1; start < n; start++) {
+            if (is_start(k - 1, start))
+                continue;
+            add_start(k, start);
+            if (loss_of_starts(k, n) < least_loss[k]) {
+                least_loss[k] = loss_of_starts(k, n);
+                best = start;
+            }
+        }
+        add_start(k, best);
+    }
+}
+
+// ---- Calls on signals
+
+// The causes that both calls on signals have.
+static unsigned signal_causes(struct bytes samples, uint64_t max_segments, struct bytes path_sizes, struct bytes path_losses,
+                              struct bytes scratch)
+{
+    size_t n = samples.len / 2;
+    uint64_t largest = max_segments < n ? max_segments : n;
+    size_t most = FAULT == 19 ? MAX_SAMPLES - 1 : MAX_SAMPLES;
+    unsigned causes = cause_if(11, odd_length(samples, 2) || odd_length(path_sizes, 2) || odd_length(path_losses, 8));
+    causes |= cause_if(1, n == 0) | cause_if(2, n > most) | cause_if(3, max_segments == 0 || max_segments > 32);
+    return causes | cause_if(9, places(path_sizes, path_losses) < largest || scratch.len < 31744);
+}
+
+// Segments a signal and makes its models, of which it answers the number.
+static size_t make_models(struct bytes samples, uint64_t max_segments)
+{
+    size_t n = samples.len / 2;
+    size_t largest = smaller(n, (size_t)max_segments);
+    for (size_t i = 0; i < n; i++)
+        samples_of[i] = get_signed(samples, i);
+    if (FAULT == 20)
+        cut_greedily(n, largest);
+    else if (n <= reference_tries_up_to)
+        try_all(n, largest);
+    else
+        programme(n, largest);
+    for (size_t k = 1; k <= largest; k++) {
+        models[k - 1].size = k;
+        models[k - 1].loss = (uint64_t)least_loss[k];
+    }
+    return largest;
+}
+
+static void clear_scratch(struct bytes scratch)
+{
+    memset(scratch.at, 0, FAULT == 13 ? 31744 : scratch.len);
+}
+
+struct foldwig_signal_path_result reference_signal_path(struct bytes samples, uint64_t max_segments, struct bytes path_sizes,
+                                                        struct bytes path_losses, struct bytes scratch, unsigned *causes)
+{
+    static const int order[] = {1, 2, 3, 9, 0};
+    struct foldwig_signal_path_result r = {0, 0};
+    size_t largest;
+    *causes = signal_causes(samples, max_segments, path_sizes, path_losses, scratch);
+    r.refusal = first_of(*causes, order);
+    if (r.refusal != 0)
+        return r;
+    largest = make_models(samples, max_segments);
+    r.entries = winners(largest);
+    put_path(path_sizes, path_losses, r.entries, largest);
+    clear_scratch(scratch);
+    return r;
+}
+
+// Puts the starts and levels of the segmentation into so many segments.
+static void put_segments(struct bytes starts, struct bytes levels, size_t segments, size_t n)
+{
+    for (size_t s = 0; s < segments; s++) {
+        size_t first = given_starts[segments][s];
+        size_t last = s + 1 < segments ? (size_t)given_starts[segments][s + 1] - 1 : n - 1;
+        put_item(starts, 2, s, first + 1);
+        put_item(levels, 2, s, (uint64_t)level_of(first, last));
+    }
+}
+
+struct foldwig_split_result reference_split(struct bytes samples, uint64_t max_segments, uint64_t p, uint64_t q,
+                                            struct bytes starts, struct bytes levels, struct bytes path_sizes,
+                                            struct bytes path_losses, struct bytes scratch, unsigned *causes)
+{
+    static const int right[] = {1, 2, 3, 4, 9, 0};
+    static const int wrong[] = {1, 2, 3, 9, 4, 0};
+    struct foldwig_split_result r = {0, 0, 0, 0};
+    size_t n = samples.len / 2, largest;
+    uint64_t needed = max_segments < n ? max_segments : n;
+    *causes = signal_causes(samples, max_segments, path_sizes, path_losses, scratch);
+    *causes |= cause_if(11, odd_length(starts, 2) || odd_length(levels, 2)) | cause_if(4, bad_penalty(p, q));
+    *causes |= cause_if(9, FAULT != 22 && smaller(starts.len / 2, levels.len / 2) < needed);
+    r.refusal = first_of(*causes, FAULT == 9 ? wrong : right);
+    if (r.refusal != 0)
+        return r;
+    largest = make_models(samples, max_segments);
+    r.segments = models[cheapest(models, largest, p, q)].size;
+    if (FAULT == 22 && smaller(starts.len / 2, levels.len / 2) < r.segments) {
+        r.refusal = 9;
+        r.segments = 0;
+        return r;
+    }
+    r.entries = winners(largest);
+    r.loss = (uint64_t)loss_of_starts(r.segments, n);
+    put_path(path_sizes, path_losses, r.entries, largest);
+    put_segments(starts, levels, r.segments, n);
+    clear_scratch(scratch);
+    return r;
+}

@@ -1,0 +1,79 @@
+// A reference for the six calls, in plain C, written from docs/RULES.md. It finds a path by asking of each model whether it can
+// be the cheapest, a short signal's segmentations by trying all of them, and a long one's by a plain dynamic programme.
+//
+// The macro FAULT plants one fault in the reference, which a test must then notice:
+//
+//    1  an entry whose breakpoint equals the one before it stays on a path
+//    2  at a breakpoint the larger size is selected
+//    3  the mean of a negative sum is cut towards zero
+//    4  a level halfway between two whole numbers is the higher one
+//    5  of equally good segmentations the one with the latest starts is given
+//    6  the zeros behind a path end one place early
+//    7  items have their high byte first
+//    8  a build needs room for its path only
+//    9  a bad penalty is found before an empty path, and a short buffer before a bad penalty
+//   10  a size with the loss of the size before it is on a signal's path
+//   11  a length that is no whole number of items is found last
+//   12  the test at the first entry is not counted
+//   13  the scratch is zeroed up to its least length only
+//   14  an append needs room for the entries that it drops
+//   15  breakpoints are reduced
+//   16  of the bad models of a build the lowest number is answered, and not the first one's
+//   17  the shorter list of a build tells the number of its models
+//   18  a loss of 2^44 is out of range
+//   19  a signal of 512 samples is too long
+//   20  segments are cut greedily, the best next cut first
+//   21  an append finds a bad model before a bad path
+//   22  a split needs room for the starts and levels that it writes only
+//   23  a selection gives the cheapest entry of any list
+#ifndef REFERENCE_H
+#define REFERENCE_H
+
+#include "../include/foldwig.h"
+
+#ifndef FAULT
+#define FAULT 0
+#endif
+
+// A byte string with its length.
+struct bytes {
+    uint8_t *at;
+    size_t len;
+};
+
+struct model {
+    uint64_t size;
+    uint64_t loss;
+};
+
+// Signals of up to this many samples are segmented by trying all segmentations, at most 12.
+extern size_t reference_tries_up_to;
+
+// Item i of a byte string whose items have so many bytes, and the same with a sign, for two bytes.
+uint64_t get_item(struct bytes b, size_t width, size_t i);
+int64_t get_signed(struct bytes b, size_t i);
+void put_item(struct bytes b, size_t width, size_t i, uint64_t value);
+
+// Whether model j of n models is, at some penalty, strictly cheaper than each other one. Sizes rise and losses never rise.
+int can_win(const struct model *models, size_t n, size_t j);
+
+// The place of the smallest of the cheapest models at the penalty p / q.
+size_t cheapest(const struct model *models, size_t n, uint64_t p, uint64_t q);
+
+// Each of these does what the call of the same name does. Bit n of *causes is set if the cause of refusal n holds, whether or not
+// it is the first one.
+struct foldwig_path_result reference_append(struct bytes sizes, struct bytes losses, uint64_t entries, uint64_t size,
+                                            uint64_t loss, unsigned *causes);
+struct foldwig_path_result reference_build(struct bytes sizes, struct bytes losses, struct bytes path_sizes,
+                                           struct bytes path_losses, unsigned *causes);
+struct foldwig_select_result reference_select(struct bytes sizes, struct bytes losses, uint64_t entries, uint64_t p, uint64_t q,
+                                              unsigned *causes);
+struct foldwig_breakpoints_result reference_breakpoints(struct bytes sizes, struct bytes losses, uint64_t entries,
+                                                        struct bytes numerators, struct bytes denominators, unsigned *causes);
+struct foldwig_signal_path_result reference_signal_path(struct bytes samples, uint64_t max_segments, struct bytes path_sizes,
+                                                        struct bytes path_losses, struct bytes scratch, unsigned *causes);
+struct foldwig_split_result reference_split(struct bytes samples, uint64_t max_segments, uint64_t p, uint64_t q,
+                                            struct bytes starts, struct bytes levels, struct bytes path_sizes,
+                                            struct bytes path_losses, struct bytes scratch, unsigned *causes);
+
+#endif

@@ -1,0 +1,791 @@
+// Compares the six calls with the reference: on worked figures, on random and tied inputs, at and past every limit, on damaged
+// paths, with lists of unequal and of odd length, and with every pair of refusal causes that can meet.
+// Usage: test [SEED]
+// A seed leads to the same calls again if the same compiler is used.
+#define _DEFAULT_SOURCE
+#include "lent.h"
+#include <pthread.h>
+#include <stdio.h>
+#include <stdlib.h>
+#include <string.h>
+#include <sys/mman.h>
+
+enum { MOST = 4100, SMALL_STACK = 256 * 1024, TURNS = 200 };
+
+static const uint64_t TOP = (uint64_t)1 << 44;
+
+static struct model list[MOST];     // the models that a test works with
+
+// ---- Making models
+
+static struct model model(uint64_t size, uint64_t loss)
+{
+    struct model m = {size, loss};
+    return m;
+}
+
+// How a list of models is made: anything in order; breakpoints that fall; breakpoints that fall or stay; large numbers.
+enum shape { ANY, FALLING, TIED, LARGE, SHAPES };
+
+// Makes n models in order, from the last one back.
+static void make_models(size_t n, enum shape shape)
+{
+    uint64_t step = n > 500 ? 2 : shape == LARGE ? 65000 / (n + 1) : 3;
+    uint64_t size = n > 0 ? 1 + below(3) : 0, loss = one_in(3) ? 0 : below(20), slope = below(3);
+    for (size_t i = 0; i < n; i++) {
+        list[i].size = size;
+        size += 1 + (shape == TIED && one_in(2) ? 0 : below(step));
+    }
+    for (size_t i = n; i-- > 0;) {
+        list[i].loss = loss;
+        if (i == 0)
+            break;
+        slope += shape == FALLING ? 1 + below(3) : below(2);
+        if (shape == ANY)
+            loss += 1 + below(12);
+        else if (shape == LARGE)
+            loss += 1 + below(TOP / (n + 1) - 20);
+        else
+            loss += (slope == 0 ? 1 : slope) * (list[i].size - list[i - 1].size);
+    }
+}
+
+// The ways to spoil the model at a place: a size of 0, a loss over the top, a size or a loss that does not follow the last one.
+enum { DAMAGES = 8 };
+
+static void spoil(size_t i, int how)
+{
+    const struct model *last = &list[i > 0 ? i - 1 : 0];
+    struct model spoilt[DAMAGES] = {
+        list[i],
+        {0, list[i].loss},
+        {list[i].size, TOP + 1},
+        {last->size, list[i].loss},
+        {last->size - 1, list[i].loss},
+        {list[i].size, last->loss},
+        {list[i].size, last->loss + 1},
+        {0, UINT64_MAX},
+    };
+    list[i] = spoilt[how];
+}
+
+// Puts n models to two buffers with room for so many items each, or for fewer than n.
+static void put_models(int buffer, size_t n, size_t size_places, size_t loss_places)
+{
+    struct bytes sizes = fresh(buffer, 2 * size_places), losses = fresh(buffer + 1, 8 * loss_places);
+    for (size_t i = 0; i < n && i < size_places; i++)
+        put_item(sizes, 2, i, list[i].size);
+    for (size_t i = 0; i < n && i < loss_places; i++)
+        put_item(losses, 8, i, list[i].loss);
+}
+
+// Makes a buffer longer by some bytes, which are random.
+static void lengthen(int which, size_t by)
+{
+    static uint8_t kept[MOST_BYTES];
+    size_t len = buffer(which).len;
+    memcpy(kept, buffer(which).at, len);
+    memcpy(fresh(which, len + by).at, kept, len);
+}
+
+static void move_buffer(int from, int to)
+{
+    struct bytes b = buffer(from);
+    memcpy(fresh(to, b.len).at, b.at, b.len);
+}
+
+// Room for n items, mostly, and else for one or two fewer or more.
+static size_t about(size_t n)
+{
+    uint64_t r = below(12);
+    return r == 0 && n > 0 ? n - 1 : r == 1 && n > 1 ? n - 2 : r < 6 ? n : n + below(4);
+}
+
+// A number that is mostly small, and else somewhere near a limit or anywhere.
+static uint64_t some_number(uint64_t limit)
+{
+    switch (below(10)) {
+    case 0: return limit;
+    case 1: return limit + 1;
+    case 2: return limit - 1;
+    case 3: return one_in(8) ? random64() : below(limit);
+    default: return below(25);
+    }
+}
+
+// ---- Paths
+
+// Compares selections from the path in buffers 0 and 1, at random penalties and at those where two of its entries cost the same.
+static void compare_selections(uint64_t entries, size_t n)
+{
+    for (int turn = 0; turn < 3; turn++) {
+        uint64_t p = some_number(TOP), q = some_number(65535);
+        if (n > 1 && one_in(2)) {
+            size_t i = below(n - 1), j = i + 1 + below(n - 1 - i);
+            p = list[i].loss - list[j].loss;
+            q = list[j].size - list[i].size;
+        }
+        compare_select(entries, p, q);
+    }
+}
+
+static void compare_listing(uint64_t entries)
+{
+    size_t count = entries == 0 || entries > 5000 ? 0 : entries - 1;
+    fresh(2, 8 * about(count) + (one_in(30) ? 1 + below(7) : 0));
+    fresh(3, 2 * about(count) + one_in(30));
+    compare_breakpoints(entries);
+}
+
+static void random_builds(int turns)
+{
+    for (int turn = 0; turn < turns; turn++) {
+        size_t n = one_in(60) ? below(300) : below(13);
+        make_models(n, (enum shape)below(SHAPES));
+        if (n > 0 && one_in(4))
+            spoil(below(n), (int)below(DAMAGES));
+        put_models(0, n, one_in(12) ? about(n) : n, one_in(12) ? about(n) : n);
+        fresh(2, 2 * about(n));
+        fresh(3, 8 * about(n));
+        if (one_in(20))
+            lengthen((int)below(4), 1 + 2 * below(4));
+        compare_build();
+    }
+}
+
+// Lists in order that no call has left, and damaged ones, said to have any number of entries.
+static void random_lists(int turns)
+{
+    for (int turn = 0; turn < turns; turn++) {
+        size_t n = one_in(60) ? below(300) : below(10), places = n + below(3);
+        uint64_t entries = one_in(8) ? n + below(3) : one_in(8) ? below(n + 1) : one_in(50) ? random64() : n;
+        uint64_t size, loss;
+        make_models(n, (enum shape)below(SHAPES));
+        size = (n > 0 ? list[n - 1].size : 0) + 1 + below(4);
+        loss = n > 0 && list[n - 1].loss > 0 ? list[n - 1].loss - 1 - below(list[n - 1].loss < 9 ? list[n - 1].loss : 9) : 0;
+        if (n > 0 && one_in(4))
+            spoil(below(n), (int)below(DAMAGES));
+        put_models(0, n, places + below(2), places + below(2));
+        if (one_in(20))
+            lengthen((int)below(2), 1 + 2 * below(4));
+        compare_selections(entries, n);
+        compare_listing(entries);
+        if (one_in(5))
+            size = some_number(65535);
+        if (one_in(5))
+            loss = some_number(TOP);
+        compare_append(entries, size, loss);
+    }
+}
+
+// ---- Histories
+
+static struct model accepted[MOST];     // the accepted models of a history
+static size_t accepted_count;
+static uint64_t tests_made;
+
+static void accept_list(size_t n)
+{
+    memcpy(accepted, list, n * sizeof list[0]);
+    accepted_count = n;
+}
+
+// Perhaps begins a history with a build into the buffers of the appends, and answers the number of entries.
+static uint64_t begin_history(size_t places)
+{
+    struct foldwig_path_result r = {0, 0, 0};
+    size_t n = below(places + 1);
+    accepted_count = 0;
+    tests_made = 0;
+    fresh(2, 2 * places);
+    fresh(3, 8 * places);
+    if (one_in(2)) {
+        make_models(n, TIED);
+        for (size_t i = 0; i < n; i++)
+            list[i].loss += 60;
+        if (n > 0 && one_in(6))
+            spoil(below(n), (int)below(DAMAGES));
+        put_models(0, n, n, n);
+        r = compare_build();
+        if (r.refusal == 0)
+            accept_list(n);
+        tests_made = r.tests;
+    }
+    move_buffer(2, 0);
+    move_buffer(3, 1);
+    return r.entries;
+}
+
+// Appends one model, mostly one in order, and answers the number of entries afterwards.
+static uint64_t go_on(uint64_t entries)
+{
+    struct model last = accepted_count > 0 ? accepted[accepted_count - 1] : model(0, 80 + below(60));
+    struct model m = model(last.size + 1 + (one_in(3) ? below(3) : 0), last.loss);
+    struct foldwig_path_result r;
+    if (m.loss > 0)
+        m.loss -= 1 + below(m.loss < 6 ? m.loss : 6);
+    if (one_in(10))
+        m.size = one_in(2) ? last.size : some_number(65535);
+    if (one_in(10))
+        m.loss = one_in(2) ? last.loss : some_number(TOP);
+    r = compare_append(entries, m.size, m.loss);
+    tests_made += r.tests;
+    if (r.refusal != 0)
+        return entries;
+    accepted[accepted_count++] = m;
+    return r.entries;
+}
+
+// The path lists just the accepted models that can win.
+static void check_winners(uint64_t entries)
+{
+    size_t at = 0;
+    for (size_t j = 0; j < accepted_count; j++) {
+        if (!can_win(accepted, accepted_count, j))
+            continue;
+        expect(at < entries && get_item(buffer(0), 2, at) == accepted[j].size && get_item(buffer(1), 8, at) == accepted[j].loss,
+               "a model that can win is not on the path after a history");
+        at++;
+    }
+    expect(at == entries, "the path after a history has too many entries");
+    if (accepted_count > 0)
+        expect(tests_made == 2 * accepted_count - 1 - entries, "the tests of a history are not 2N - 1 - M");
+}
+
+// A selection from the path gives the smallest of the cheapest accepted models.
+static void check_cheapest(uint64_t entries, uint64_t p, uint64_t q)
+{
+    struct foldwig_select_result r = compare_select(entries, p, q);
+    size_t best = cheapest(accepted, accepted_count, p, q);
+    expect(r.refusal == 0 && r.size == accepted[best].size && r.loss == accepted[best].loss,
+           "a selection after a history is not the smallest of the cheapest models");
+}
+
+// Breakpoints fall along the path, and at each of them a selection is right.
+static void check_breakpoints(uint64_t entries)
+{
+    uint64_t p = 0, q = 0;
+    fresh(2, 8 * (entries - 1));
+    fresh(3, 2 * (entries - 1));
+    compare_breakpoints(entries);
+    for (size_t i = 0; i + 1 < entries; i++) {
+        uint64_t next_p = get_item(buffer(2), 8, i), next_q = get_item(buffer(3), 2, i);
+        expect(i == 0 || next_p * q < p * next_q, "breakpoints after a history do not fall");
+        p = next_p;
+        q = next_q;
+        check_cheapest(entries, p, q);
+    }
+}
+
+static void random_histories(int turns)
+{
+    for (int turn = 0; turn < turns; turn++) {
+        uint64_t entries = begin_history(1 + below(one_in(4) ? 4 : 12));
+        for (size_t left = below(24); left > 0; left--)
+            entries = go_on(entries);
+        check_winners(entries);
+        if (entries == 0)
+            continue;
+        check_breakpoints(entries);
+        check_cheapest(entries, 0, 1 + below(65535));
+        check_cheapest(entries, below(30), 1 + below(6));
+        check_cheapest(entries, TOP, 1);
+    }
+}
+
+// ---- Signals
+
+// How the samples of a signal are drawn: a few values, all values, the two extremes, steps, a drift.
+enum drawing { FEW, ALL, EXTREMES, STEPS, DRIFT, DRAWINGS };
+
+static void draw_samples(int which, size_t n, enum drawing drawing)
+{
+    struct bytes samples = fresh(which, 2 * n);
+    int64_t values = 2 + (int64_t)below(5), low = -(int64_t)below(5), level = 0;
+    for (size_t i = 0; i < n; i++) {
+        int64_t x = low + (int64_t)below((uint64_t)values);
+        if (drawing == ALL)
+            x = (int64_t)below(65536) - 32768;
+        else if (drawing == EXTREMES)
+            x = one_in(2) ? -32768 : 32767;
+        else if (drawing == STEPS)
+            x = level = i == 0 || one_in(6) ? (int64_t)below(41) - 20 : level;
+        else if (drawing == DRIFT)
+            x = level += (int64_t)below(7) - 3;
+        put_item(samples, 2, i, (uint64_t)x);
+    }
+}
+
+static size_t scratch_length(void)
+{
+    return one_in(40) ? FOLDWIG_SCRATCH_LEN - 1 - below(100) : FOLDWIG_SCRATCH_LEN + (one_in(3) ? below(200) : 0);
+}
+
+// Compares both calls on a signal that is drawn anew.
+static void compare_signal(size_t n, enum drawing drawing, uint64_t limit, uint64_t p, uint64_t q)
+{
+    size_t needed = limit < n ? (size_t)limit : n;
+    draw_samples(0, n, drawing);
+    for (int i = 1; i < 4; i++)
+        fresh(i, 2 * about(needed));
+    fresh(4, 8 * about(needed));
+    fresh(5, scratch_length());
+    if (one_in(25))
+        lengthen((int)below(5), 1 + 2 * below(4));
+    compare_split(limit, p, q);
+    if (one_in(3))
+        return;
+    fresh(1, 2 * about(needed));
+    fresh(2, 8 * about(needed));
+    fresh(3, scratch_length());
+    compare_signal_path(limit);
+}
+
+// Short signals: all their segmentations are tried in half of the turns.
+static void short_signals(int turns)
+{
+    for (int turn = 0; turn < turns; turn++) {
+        uint64_t p = one_in(4) ? some_number(TOP) : below(12), q = one_in(4) ? some_number(65535) : 1 + below(6);
+        uint64_t limit = one_in(20) ? some_number(32) : 1 + below(10);
+        reference_tries_up_to = turn % 2 == 0 ? 10 : 0;
+        compare_signal(1 + below(one_in(4) ? 10 : 8), (enum drawing)below(DRAWINGS), limit, p, q);
+    }
+}
+
+static void long_signals(int turns, size_t longest)
+{
+    for (int turn = 0; turn < turns; turn++) {
+        size_t n = longest - below(one_in(2) ? 1 : longest / 2);
+        uint64_t limit = one_in(2) ? 32 : 1 + below(32);
+        uint64_t p = one_in(2) ? below(2000) : below(TOP), q = 1 + below(one_in(2) ? 9 : 65535);
+        compare_signal(n, (enum drawing)below(DRAWINGS), limit, p, q);
+    }
+}
+
+// ---- Refusals: the causes of each call are brought together in all ways
+
+// Lengthens one of the first so many buffers by a byte; the number of buffers itself stands for none of them.
+static void make_odd(int which, int buffers)
+{
+    if (which < buffers)
+        lengthen(which, 1);
+}
+
+// The number of entries that is said for a path of n entries with so many places.
+static uint64_t said_entries(int how, size_t n, size_t places)
+{
+    uint64_t said[] = {n, places + 1, 4097, UINT64_MAX, (uint64_t)1 << 32};
+    return said[how];
+}
+
+// A path of n entries whose last but one or last is perhaps spoilt.
+static void small_path(size_t n, int damage)
+{
+    static const struct model path[] = {{10, 400}, {20, 300}, {30, 250}, {40, 220}};
+    memcpy(list, path, sizeof path);
+    if (n > 1)
+        spoil(n - 2 + (damage > 2), damage);
+    else if (n == 1 && (damage == 1 || damage == 2 || damage == 7))
+        spoil(0, damage);
+}
+
+// Appends to the path in the buffers, each time as it was, new models that are spoilt in all ways.
+static void meet_append_models(uint64_t entries, size_t n)
+{
+    struct model last = n > 0 ? list[n - 1] : model(10, 400);
+    uint64_t sizes[] = {last.size + 9, last.size, last.size - 1, 0, 65536, UINT64_MAX, 65535};
+    uint64_t losses[] = {last.loss - 1, last.loss, last.loss + 1, TOP + 1, UINT64_MAX, TOP, 0};
+    static uint8_t kept[2][64];
+    size_t lens[] = {buffer(0).len, buffer(1).len};
+    for (int i = 0; i < 2; i++)
+        memcpy(kept[i], buffer(i).at, lens[i]);
+    for (int i = 0; i < 49; i++) {
+        compare_append(entries, sizes[i / 7], losses[i % 7]);
+        memcpy(buffer(0).at, kept[0], lens[0]);
+        memcpy(buffer(1).at, kept[1], lens[1]);
+    }
+}
+
+static void meet_append(void)
+{
+    for (int i = 0; i < 3 * DAMAGES * 3 * 5 * 3; i++) {
+        size_t n = i % 3 == 0 ? 0 : i % 3 == 1 ? 1 : 4;
+        int damage = i / 3 % DAMAGES, odd = i / 3 / DAMAGES % 3, said = i / 9 / DAMAGES % 5, room = i / 45 / DAMAGES;
+        small_path(n, damage);
+        put_models(0, n, n + (room > 0), n + (room > 1));
+        make_odd(odd, 2);
+        meet_append_models(said_entries(said, n, n + (room > 1)), n);
+    }
+}
+
+static void meet_select(void)
+{
+    static const uint64_t ps[] = {0, 70, (uint64_t)1 << 44, ((uint64_t)1 << 44) + 1, UINT64_MAX};
+    static const uint64_t qs[] = {1, 0, 65535, 65536, UINT64_MAX};
+    for (int i = 0; i < 3 * DAMAGES * 3 * 5 * 25; i++) {
+        size_t n = i % 3 == 0 ? 0 : i % 3 == 1 ? 1 : 4;
+        int damage = i / 3 % DAMAGES, odd = i / 3 / DAMAGES % 3, said = i / 9 / DAMAGES % 5, penalty = i / 45 / DAMAGES;
+        small_path(n, damage);
+        put_models(0, n, n, n);
+        make_odd(odd, 2);
+        compare_select(said_entries(said, n, n), ps[penalty / 5], qs[penalty % 5]);
+    }
+}
+
+static void meet_breakpoints(void)
+{
+    for (int i = 0; i < 3 * DAMAGES * 5 * 5 * 4; i++) {
+        size_t n = i % 3 == 0 ? 0 : i % 3 == 1 ? 1 : 4, count = n > 0 ? n - 1 : 0;
+        int damage = i / 3 % DAMAGES, odd = i / 3 / DAMAGES % 5, said = i / 15 / DAMAGES % 5, room = i / 75 / DAMAGES;
+        small_path(n, damage);
+        put_models(0, n, n, n);
+        fresh(2, 8 * (room == 1 ? 0 : count));
+        fresh(3, 2 * (room == 2 && count > 0 ? count - 1 : room == 3 ? 0 : count));
+        make_odd(odd, 4);
+        compare_breakpoints(said_entries(said, n, n));
+    }
+}
+
+// Builds from n models, of which two may be spoilt.
+static void meet_build_of(size_t n, int damage, int other_damage, int odd, int lack, int room)
+{
+    make_models(n, FALLING);
+    if (n > 2) {
+        spoil(1, damage);
+        spoil(2, other_damage);
+    } else if (n > 0) {
+        spoil(n - 1, damage);
+    }
+    put_models(0, n, n - (lack == 1 && n > 0), n - (size_t)(lack == 2 && n > 1 ? 2 : 0));
+    fresh(2, 2 * (n - (room == 1 && n > 0)));
+    fresh(3, 8 * (n - (room == 2 && n > 0)));
+    make_odd(odd, 4);
+    compare_build();
+}
+
+static void meet_build(void)
+{
+    static const size_t counts[] = {0, 1, 4};
+    for (int i = 0; i < 3 * DAMAGES * DAMAGES * 5 * 3 * 3; i++)
+        meet_build_of(counts[i % 3], i / 3 % DAMAGES, i / 3 / DAMAGES % DAMAGES, i / 3 / DAMAGES / DAMAGES % 5,
+                      i / 15 / DAMAGES / DAMAGES % 3, i / 45 / DAMAGES / DAMAGES);
+    for (int i = 0; i < DAMAGES * 5 * 3 * 3; i++)
+        meet_build_of(i % 5 == 0 ? 4100 : 4097, i % DAMAGES, 0, i / DAMAGES % 5, i / DAMAGES / 5 % 3, i / DAMAGES / 15);
+    for (int i = 0; i < 5; i++)
+        meet_build_of(4096, i == 0 ? 0 : 1, 0, 4, i % 3, i == 4);
+}
+
+// Both calls on a signal of n samples, with short buffers and odd lengths.
+static void meet_signal_of(size_t n, uint64_t limit, int room, int odd, int penalty)
+{
+    static const uint64_t ps[] = {1, 0, (uint64_t)1 << 44, ((uint64_t)1 << 44) + 1, 1, 1, UINT64_MAX};
+    static const uint64_t qs[] = {1, 65535, 1, 1, 0, 65536, UINT64_MAX};
+    size_t needed = limit < n ? (size_t)limit : n, lack = needed > 0;
+    draw_samples(0, n, n > 100 ? FEW : STEPS);
+    for (int i = 1; i < 4; i++)
+        fresh(i, 2 * (needed - (room == i ? lack : 0)));
+    fresh(4, 8 * (needed - (room == 4 ? lack : 0)));
+    fresh(5, room == 5 ? FOLDWIG_SCRATCH_LEN - 1 : room == 6 ? 0 : room == 7 ? 40000 : FOLDWIG_SCRATCH_LEN);
+    make_odd(odd, 5);
+    compare_split(limit, ps[penalty], qs[penalty]);
+    if (penalty > 0)
+        return;
+    move_buffer(3, 1);
+    move_buffer(4, 2);
+    move_buffer(5, 3);
+    compare_signal_path(limit);
+}
+
+static void meet_signals(void)
+{
+    static const size_t counts[] = {0, 1, 3, 512, 513, 700};
+    static const uint64_t limits[] = {0, 1, 3, 32, 33, UINT64_MAX, (uint64_t)1 << 32};
+    for (int i = 0; i < 6 * 7 * 8 * 6 * 7; i++) {
+        int count = i % 6, limit = i / 6 % 7, room = i / 42 % 8, odd = i / 336 % 6, penalty = i / 2016;
+        meet_signal_of(counts[count], limits[limit], room, odd, penalty);
+    }
+}
+
+// ---- Limits
+
+// A path of 4,096 entries is full: a model that drops none gets 9, one that drops some is taken.
+static void full_paths(void)
+{
+    make_models(4096, FALLING);
+    for (size_t i = 0; i < 4096; i++)
+        list[i].loss += 100;
+    for (size_t places = 4095; places <= 4098; places++) {
+        struct model last = list[4095];
+        put_models(0, 4096, places, places);
+        compare_append(4096, last.size + 200, last.loss - 1);
+        put_models(0, 4096, places, places);
+        compare_append(4096, last.size + 1, last.loss - 90);
+        put_models(0, 4096, places, places);
+        compare_append(4097, last.size + 1, last.loss - 1);
+        compare_select(4096, 1, 65535);
+        compare_select(4096, TOP, 1);
+        compare_select(4097, 1, 1);
+        compare_listing(4096);
+        compare_listing(4097);
+    }
+}
+
+// The largest numbers that are accepted, together.
+static void largest_numbers(void)
+{
+    list[0] = model(1, TOP);
+    list[1] = model(65534, 1);
+    list[2] = model(65535, 0);
+    put_models(0, 3, 3, 3);
+    fresh(2, 6);
+    fresh(3, 24);
+    expect(compare_build().entries == 3, "a build of the largest numbers");
+    compare_select(3, TOP, 65535);
+    compare_select(3, TOP, 1);
+    compare_select(3, 0, 65535);
+    compare_listing(3);
+    list[0] = model(65535, TOP);
+    put_models(0, 1, 1, 1);
+    expect(compare_select(1, TOP, 65535).refusal == 0, "a selection at the largest numbers");
+    expect(compare_append(0, 65535, TOP).refusal == 0, "a loss of 2^44 is taken");
+    expect(compare_append(0, 65535, TOP + 1).refusal == 5, "a loss of 2^44 + 1 gets 5");
+}
+
+// ---- Worked figures
+
+static void put_samples(const int *samples, size_t n)
+{
+    struct bytes b = fresh(0, 2 * n);
+    for (size_t i = 0; i < n; i++)
+        put_item(b, 2, i, (uint64_t)samples[i]);
+    for (int i = 1; i < 4; i++)
+        fresh(i, 2 * 32);
+    fresh(4, 8 * 32);
+    fresh(5, FOLDWIG_SCRATCH_LEN);
+}
+
+static int bytes_are(int which, const char *wanted, size_t len)
+{
+    return memcmp(buffer(which).at, wanted, len) == 0;
+}
+
+static void path_figures(void)
+{
+    static const uint64_t losses[3][5] = {{7, 4, 0}, {7, 4, 2}, {4, 3, 2, 1, 0}};
+    static const size_t counts[] = {3, 3, 5};
+    static const uint64_t entries[] = {2, 3, 2}, tests[] = {3, 2, 7};
+    for (int i = 0; i < 3; i++) {
+        struct foldwig_path_result r;
+        for (size_t j = 0; j < counts[i]; j++)
+            list[j] = model(j + 1, losses[i][j]);
+        put_models(0, counts[i], counts[i], counts[i]);
+        fresh(2, 2 * counts[i]);
+        fresh(3, 8 * counts[i]);
+        r = compare_build();
+        expect(r.refusal == 0 && r.entries == entries[i] && r.tests == tests[i], "a worked figure of a build");
+        expect(i != 0 || (bytes_are(2, "\1\0\3\0\0", 6) && bytes_are(3, "\7\0\0\0\0\0\0\0\0", 10)), "the bytes of a build");
+    }
+}
+
+static void split_figures(void)
+{
+    static const int a[] = {0, 1, 0}, b[] = {0, 2, 4}, c[] = {-3, -2}, d[] = {0, 1, 4, 0, 4};
+    static int half[513];
+    struct foldwig_split_result r;
+    put_samples(a, 3);
+    r = compare_split(3, 1, 4);
+    expect(r.segments == 3 && r.loss == 0 && bytes_are(1, "\1\0\2\0\3\0", 6) && bytes_are(2, "\0\0\1\0\0", 6), "0 1 0 at 1/4");
+    put_samples(a, 3);
+    r = compare_split(2, 0, 1);
+    expect(r.segments == 1 && r.loss == 1 && r.entries == 1, "0 1 0 with the limit 2");
+    put_samples(b, 3);
+    r = compare_split(3, 3, 1);
+    expect(r.segments == 2 && r.loss == 2 && bytes_are(1, "\1\0\2\0", 4) && bytes_are(2, "\0\0\3\0", 4), "0 2 4 at 3");
+    put_samples(c, 2);
+    r = compare_split(1, 0, 1);
+    expect(r.loss == 1 && bytes_are(2, "\375\377", 2), "-3 -2 with the limit 1");
+    put_samples(d, 5);
+    r = compare_split(3, 1, 1);
+    expect(r.segments == 3 && r.loss == 9 && bytes_are(1, "\1\0\3\0\4\0", 6), "0 1 4 0 4 with the limit 3");
+    for (size_t i = 0; i < 513; i++)
+        half[i] = i < 256 ? -32768 : 32767;
+    put_samples(half, 512);
+    r = compare_split(1, 1, 1);
+    expect(r.segments == 1 && r.loss == UINT64_C(549739036928) && bytes_are(2, "\377\377", 2), "512 extremes as one segment");
+    put_samples(half, 513);
+    expect(compare_split(1, 1, 1).refusal == 2, "513 samples");
+}
+
+// ---- Threads
+
+static void build_at_limit(void)
+{
+    make_models(4096, TIED);
+    put_models(0, 4096, 4096, 4096);
+    fresh(2, 2 * 4096);
+    fresh(3, 8 * 4096);
+    expect(compare_build().refusal == 0, "a build of 4,096 models on a small stack");
+}
+
+static void append_at_limit(void)
+{
+    make_models(4095, FALLING);
+    list[4094].loss += 1;
+    for (size_t i = 0; i < 4094; i++)
+        list[i].loss += 2 + (4094 - i);
+    put_models(0, 4095, 4096, 4096);
+    expect(compare_append(4095, 65535, 0).refusal == 0, "an append to 4,095 entries on a small stack");
+}
+
+static void select_at_limit(void)
+{
+    make_models(4096, FALLING);
+    put_models(0, 4096, 4096, 4096);
+    expect(compare_select(4096, 0, 1).refusal == 0, "a selection from 4,096 entries on a small stack");
+}
+
+static void breakpoints_at_limit(void)
+{
+    make_models(4096, FALLING);
+    put_models(0, 4096, 4096, 4096);
+    fresh(2, 8 * 4096);
+    fresh(3, 2 * 4096);
+    expect(compare_breakpoints(4096).count == 4095, "4,095 breakpoints on a small stack");
+}
+
+static void signal_at_limit(void)
+{
+    meet_signal_of(512, 32, 0, 5, 0);
+    meet_signal_of(512, 32, 7, 5, 1);
+}
+
+static void *run_in_thread(void *function)
+{
+    (*(void (**)(void))function)();
+    return NULL;
+}
+
+// Runs a function in a thread of its own with a small stack.
+static void on_small_stack(void (*function)(void))
+{
+    pthread_attr_t attributes;
+    pthread_t thread;
+    if (pthread_attr_init(&attributes) != 0 || pthread_attr_setstacksize(&attributes, SMALL_STACK) != 0 ||
+        pthread_create(&thread, &attributes, run_in_thread, &function) != 0) {
+        fprintf(stderr, "no thread can be started\n");
+        exit(2);
+    }
+    pthread_join(thread, NULL);
+    pthread_attr_destroy(&attributes);
+}
+
+static void small_stacks(void)
+{
+    on_small_stack(build_at_limit);
+    on_small_stack(append_at_limit);
+    on_small_stack(select_at_limit);
+    on_small_stack(breakpoints_at_limit);
+    on_small_stack(signal_at_limit);
+}
+
+// What one of two threads works on, and the answer and the bytes that its first call left.
+struct worker {
+    uint8_t samples[200], starts[64], levels[64], sizes[64], losses[256], scratch[FOLDWIG_SCRATCH_LEN];
+    uint64_t loss, p;
+    uint8_t first_starts[64];
+    int same;
+};
+
+static struct foldwig_split_result split_of(struct worker *w)
+{
+    return foldwig_split(w->samples, sizeof w->samples, 32, w->p, 1, w->starts, sizeof w->starts, w->levels, sizeof w->levels,
+                         w->sizes, sizeof w->sizes, w->losses, sizeof w->losses, w->scratch, sizeof w->scratch);
+}
+
+static void *work(void *worker)
+{
+    struct worker *w = worker;
+    for (int turn = 0; turn < TURNS; turn++) {
+        struct foldwig_split_result r = split_of(w);
+        w->same = w->same && r.refusal == 0 && r.loss == w->loss && memcmp(w->starts, w->first_starts, sizeof w->starts) == 0;
+    }
+    return NULL;
+}
+
+// Two threads call at the same time, each with buffers of its own, and get what one alone gets.
+static void two_at_once(void)
+{
+    static struct worker workers[2];
+    pthread_t threads[2];
+    for (int i = 0; i < 2; i++) {
+        struct worker *w = &workers[i];
+        draw_samples(0, sizeof w->samples / 2, DRIFT);
+        memcpy(w->samples, buffer(0).at, sizeof w->samples);
+        w->p = (uint64_t)(5 + 20 * i);
+        w->loss = split_of(w).loss;
+        memcpy(w->first_starts, w->starts, sizeof w->starts);
+        w->same = 1;
+    }
+    for (int i = 0; i < 2; i++)
+        if (pthread_create(&threads[i], NULL, work, &workers[i]) != 0)
+            exit(2);
+    for (int i = 0; i < 2; i++) {
+        pthread_join(threads[i], NULL);
+        expect(workers[i].same, "a split differs while another thread splits");
+    }
+}
+
+// ---- Lengths over 32 bits
+
+// Makes calls with byte strings of 8 GB and more, of which only a little is looked at. The bytes are all 0 at first.
+static void wide_lengths(void)
+{
+    size_t len = ((size_t)1 << 33) + 16;
+    uint8_t small[64] = {0}, scratch[FOLDWIG_SCRATCH_LEN];
+    uint8_t *a = mmap(NULL, len, PROT_READ | PROT_WRITE, MAP_PRIVATE | MAP_ANONYMOUS | MAP_NORESERVE, -1, 0);
+    uint8_t *b = mmap(NULL, len, PROT_READ | PROT_WRITE, MAP_PRIVATE | MAP_ANONYMOUS | MAP_NORESERVE, -1, 0);
+    if (a == MAP_FAILED || b == MAP_FAILED) {
+        printf("no address space for lengths over 32 bits: left out\n");
+        return;
+    }
+    expect(foldwig_build(a, len, b, len, small, 16, small + 16, 16).refusal == 2, "a build of 8 GB");
+    expect(foldwig_build(NULL, 0, b, len, small, 16, small + 16, 16).refusal == 2, "a build of 8 GB without sizes");
+    expect(foldwig_build(a, len + 1, b, len, small, 16, small + 16, 16).refusal == 11, "a build of 8 GB and a byte");
+    expect(foldwig_signal_path(a, len, 4, small, 16, small + 16, 32, scratch, sizeof scratch).refusal == 2, "a signal of 8 GB");
+    expect(foldwig_select(a, len, b, len, ((uint64_t)1 << 32) + 1, 1, 1).refusal == 8, "a path of 2^32 + 1 entries");
+    expect(foldwig_select(a, len, b, len, 0, 1, 1).refusal == 10, "an empty path in 8 GB");
+    expect(foldwig_append(a, len, b, len, 0, 513, 7).entries == 1 && a[0] == 1 && a[1] == 2 && b[0] == 7, "an append in 8 GB");
+    expect(foldwig_append(a, len, b, len, 1, 600, 3).entries == 2 && a[2] == 88 && b[8] == 3, "a second append in 8 GB");
+    expect(foldwig_breakpoints(a, len, b, len, 2, small, 8, small + 8, 2).count == 1 && small[0] == 4 && small[8] == 87,
+           "the breakpoint of a path in 8 GB");
+    munmap(a, len);
+    munmap(b, len);
+}
+
+int main(int argc, char **argv)
+{
+    uint64_t seed = argc > 1 ? strtoull(argv[1], NULL, 10) : 20221110;
+    setvbuf(stdout, NULL, _IOLBF, 0);
+    printf("seed %llu\n", (unsigned long long)seed);
+    seed_random(seed);
+    map_buffers();
+    path_figures();
+    split_figures();
+    largest_numbers();
+    meet_append();
+    meet_build();
+    meet_select();
+    meet_breakpoints();
+    random_builds(60000);
+    random_lists(30000);
+    random_histories(6000);
+    meet_signals();
+    short_signals(80000);
+    long_signals(3000, 40);
+    long_signals(150, 512);
+    full_paths();
+    small_stacks();
+    two_at_once();
+    wide_lengths();
+    return summary();
+}

@@ -1,0 +1,201 @@
+/*
+ * Foldwig: segmentation of a signal at a penalty on the number of segments, and the path of the sizes that can be the cheapest.
+ *
+ * This header is for C99 and for C++, on x86-64 with the usual calling convention of Linux. docs/RULES.md states all that the
+ * calls do; R1 to R53 below are its rules.
+ *
+ * Numbers in memory. Lists stand in byte strings, low byte first, without any demand on alignment:
+ *
+ *   samples, levels                       two bytes, two's complement
+ *   starts, sizes, denominators           two bytes, no sign
+ *   losses, numerators                    eight bytes, no sign
+ *   scratch                               bytes
+ *
+ * A byte string is lent as a pointer followed by its length in bytes. The number of its items is the length divided by the width
+ * of an item. Of two buffers that hold one thing together, the shorter one counts. A null pointer may come with the length 0.
+ *
+ * Refusals. No call has a precondition on values: each answers a struct by value, and its first field is 0 if the call was
+ * accepted and else a number of enum foldwig_refusal. Several causes may hold at once; the first one in the order given with the
+ * call decides. A refused call answers 0 in all other fields and alters no byte that was lent to it.
+ *
+ * Memory. A buffer that a call writes must not overlap anything else that is lent to the same call. The library takes no memory
+ * but the stack, of which a call takes at most as much as is said with it.
+ *
+ * Threads. Calls share no state and keep none, so any thread may call at any time, also while another one is in a call, as long
+ * as no buffer that one of them writes is used by the other.
+ */
+#ifndef FOLDWIG_H
+#define FOLDWIG_H
+
+#include <stddef.h>
+#include <stdint.h>
+
+#ifdef __cplusplus
+extern "C" {
+#endif
+
+/* Limits. Each is the largest number that is accepted. */
+#define FOLDWIG_MAX_SAMPLES 512                         /* samples of a signal, from 1 on */
+#define FOLDWIG_MAX_SEGMENTS 32                         /* the limit max_segments, from 1 on */
+#define FOLDWIG_MAX_MODELS 4096                         /* models of a build, from 1 on */
+#define FOLDWIG_MAX_ENTRIES 4096                        /* entries of a path */
+#define FOLDWIG_MAX_SIZE 65535                          /* a size, from 1 on */
+#define FOLDWIG_MAX_LOSS UINT64_C(17592186044416)       /* a loss: 2^44 */
+#define FOLDWIG_MAX_P UINT64_C(17592186044416)          /* the penalty's numerator: 2^44 */
+#define FOLDWIG_MAX_Q 65535                             /* the penalty's denominator, from 1 on */
+
+/* The least length of the scratch in bytes. */
+#define FOLDWIG_SCRATCH_LEN 31744
+
+/* The most stack that each call takes, in bytes, as measured by c/stack.c and rounded up. */
+#define FOLDWIG_APPEND_STACK 66000
+#define FOLDWIG_BUILD_STACK 132000
+#define FOLDWIG_SELECT_STACK 66000
+#define FOLDWIG_BREAKPOINTS_STACK 132000
+#define FOLDWIG_SIGNAL_PATH_STACK 13000
+#define FOLDWIG_SPLIT_STACK 15000
+
+/* The widths of items in bytes. */
+#define FOLDWIG_SAMPLE_LEN 2
+#define FOLDWIG_LEVEL_LEN 2
+#define FOLDWIG_START_LEN 2
+#define FOLDWIG_SIZE_LEN 2
+#define FOLDWIG_LOSS_LEN 8
+#define FOLDWIG_NUMERATOR_LEN 8
+#define FOLDWIG_DENOMINATOR_LEN 2
+
+/* What the first field of an answer says. */
+enum foldwig_refusal {
+    FOLDWIG_ACCEPTED = 0,           /* The call was accepted. */
+    FOLDWIG_NOTHING_GIVEN = 1,      /* The signal has no samples, or the build has no models. */
+    FOLDWIG_TOO_MANY = 2,           /* The signal has more than 512 samples, or the build more than 4,096 models. */
+    FOLDWIG_BAD_LIMIT = 3,          /* max_segments is 0 or more than 32. */
+    FOLDWIG_BAD_PENALTY = 4,        /* p is more than 2^44, or q is 0 or more than 65,535. */
+    FOLDWIG_BAD_MODEL = 5,          /* A new model is out of range, or its size or its loss is lacking. */
+    FOLDWIG_SIZE_NOT_LARGER = 6,    /* A new size is not larger than the last one. */
+    FOLDWIG_LOSS_NOT_SMALLER = 7,   /* A new loss is not smaller than the last one. */
+    FOLDWIG_BAD_PATH = 8,           /* The path lent is out of range or out of order, or shorter than its number of entries. */
+    FOLDWIG_NO_ROOM = 9,            /* A buffer is too short. */
+    FOLDWIG_EMPTY_PATH = 10,        /* There is no entry to select. */
+    FOLDWIG_BAD_LENGTH = 11         /* The length of a byte string is no multiple of the width of its items. */
+};
+
+/* The number of refusals with 0, and a short text for each: the initialiser of an array of so many strings. */
+#define FOLDWIG_REFUSALS 12
+#define FOLDWIG_REFUSAL_TEXTS                                                                                                    \
+    {                                                                                                                            \
+        "accepted", "no samples or no models", "too many samples or models", "limit out of range", "penalty out of range",       \
+            "new model out of range or incomplete", "new size not larger than the last", "new loss not smaller than the last",   \
+            "path out of range, out of order or too long", "buffer too short", "path without entries",                           \
+            "length not a whole number of items"                                                                                 \
+    }
+
+/* The answer of an append and of a build. */
+struct foldwig_path_result {
+    uint64_t refusal;
+    uint64_t entries;   /* how many entries the path has now */
+    uint64_t tests;     /* how many tests were made */
+};
+
+/* The answer of a selection. */
+struct foldwig_select_result {
+    uint64_t refusal;
+    uint64_t index;     /* the entry's place, counted from 0 */
+    uint64_t size;
+    uint64_t loss;
+};
+
+/* The answer of a listing of breakpoints. */
+struct foldwig_breakpoints_result {
+    uint64_t refusal;
+    uint64_t count;     /* how many breakpoints there are */
+};
+
+/* The answer of a call for the path of a signal. */
+struct foldwig_signal_path_result {
+    uint64_t refusal;
+    uint64_t entries;   /* how many entries the path has */
+};
+
+/* The answer of a split. */
+struct foldwig_split_result {
+    uint64_t refusal;
+    uint64_t segments;  /* how many segments there are */
+    uint64_t loss;      /* the loss of all segments together */
+    uint64_t entries;   /* how many entries the path has */
+};
+
+/*
+ * Appends a model, size with loss, to the path of so many entries in sizes and losses (R12 to R16). It drops the entries that can
+ * no longer be the cheapest, puts the model behind those that stay, and zeros the places from the new end to the old one.
+ * All other places stay. 0 entries mean an empty path, whatever the buffers hold.
+ * Refusals, in order: 11, 8, 5, 6, 7, 9. The buffers need places for the path as it is afterwards, dropped entries not counted.
+ * Stack: 66,000 bytes.
+ */
+struct foldwig_path_result foldwig_append(uint8_t *sizes, size_t sizes_len, uint8_t *losses, size_t losses_len, uint64_t entries,
+                                          uint64_t size, uint64_t loss);
+
+/*
+ * Builds the path of a list of models, as appending them one by one to an empty path would (R16, R17). sizes and losses hold the
+ * models; the longer list tells how many there are, and a model without its size or its loss is a bad one. The path is written
+ * to the front of path_sizes and path_losses, with zeros behind it as far as the number of models. All other places stay.
+ * Refusals, in order: 11, 1, 2, then at the first bad model 5, 6 or 7, then 9. The buffers need a place for each model.
+ * Stack: 132,000 bytes.
+ */
+struct foldwig_path_result foldwig_build(const uint8_t *sizes, size_t sizes_len, const uint8_t *losses, size_t losses_len,
+                                         uint8_t *path_sizes, size_t path_sizes_len, uint8_t *path_losses,
+                                         size_t path_losses_len);
+
+/*
+ * Selects an entry of the path of so many entries at the penalty p / q (R20 to R23): from the first entry on it moves to the next
+ * one as long as that costs less, where a model costs q * loss + p * size. On a path that the library made this is the cheapest
+ * of all its models, and the smallest one of several. It writes nothing.
+ * Refusals, in order: 11, 8, 10, 4.
+ * Stack: 66,000 bytes.
+ */
+struct foldwig_select_result foldwig_select(const uint8_t *sizes, size_t sizes_len, const uint8_t *losses, size_t losses_len,
+                                            uint64_t entries, uint64_t p, uint64_t q);
+
+/*
+ * Lists the breakpoints of the path of so many entries (R11, R24). Each is the difference of two losses over that of the sizes,
+ * not reduced, and stands at the front of numerators and denominators in the order of the entries. All other places stay.
+ * A path of one entry or of none has no breakpoint, and the count is then 0.
+ * Refusals, in order: 11, 8, 9. The buffers need a place for each breakpoint.
+ * Stack: 132,000 bytes.
+ */
+struct foldwig_breakpoints_result foldwig_breakpoints(const uint8_t *sizes, size_t sizes_len, const uint8_t *losses,
+                                                      size_t losses_len, uint64_t entries, uint8_t *numerators,
+                                                      size_t numerators_len, uint8_t *denominators, size_t denominators_len);
+
+/*
+ * Gives the path of a signal (R25 to R31): the sizes from 1 to max_segments, at most the number of samples, that can be the
+ * cheapest at some penalty, each with the least loss that so many segments can have. The path is written to the front of
+ * path_sizes and path_losses, with zeros behind it as far as the smaller of max_segments and the number of samples. All other
+ * places stay. The scratch may hold anything before, and every byte of it is zero afterwards.
+ * Refusals, in order: 11, 1, 2, 3, 9. The buffers need as many places as the smaller of max_segments and the number of samples,
+ * and the scratch FOLDWIG_SCRATCH_LEN bytes.
+ * Stack: 13,000 bytes.
+ */
+struct foldwig_signal_path_result foldwig_signal_path(const uint8_t *samples, size_t samples_len, uint64_t max_segments,
+                                                      uint8_t *path_sizes, size_t path_sizes_len, uint8_t *path_losses,
+                                                      size_t path_losses_len, uint8_t *scratch, size_t scratch_len);
+
+/*
+ * Splits a signal at the penalty p / q into 1 to max_segments segments, so that q * loss + p * segments is least, with as few
+ * segments as that allows (R25 to R35). Of the best segmentations of this size it gives the one whose last segment starts
+ * earliest, then the one before it, and so on. The starts, counted from 1, and the levels go to the front of two buffers, and the
+ * rest of both stays. The path of the signal and the scratch are as foldwig_signal_path leaves them.
+ * Refusals, in order: 11, 1, 2, 3, 4, 9. All four buffers need as many places as the smaller of max_segments and the number of
+ * samples, even if fewer segments come out, and the scratch FOLDWIG_SCRATCH_LEN bytes.
+ * Stack: 15,000 bytes.
+ */
+struct foldwig_split_result foldwig_split(const uint8_t *samples, size_t samples_len, uint64_t max_segments, uint64_t p,
+                                          uint64_t q, uint8_t *starts, size_t starts_len, uint8_t *levels, size_t levels_len,
+                                          uint8_t *path_sizes, size_t path_sizes_len, uint8_t *path_losses,
+                                          size_t path_losses_len, uint8_t *scratch, size_t scratch_len);
+
+#ifdef __cplusplus
+}
+#endif
+
+#endif
