@@ -3,26 +3,14 @@
 // is compared with the other's first, on these signals at several penalties and on many short random ones.
 // Usage: main [TURNS]
 #include "plain.h"
+#include <foldwig.h>
 #include <stdbool.h>
 #include <stdio.h>
 #include <stdlib.h>
 #include <string.h>
 #include <time.h>
 
-enum { SCRATCH_LEN = 31744, SIGNALS = 4, PENALTIES = 5, SHORT_SIGNALS = 2000 };
-
-// The answer of the library's call.
-struct segmented {
-    uint64_t refusal;
-    size_t segments;
-    uint64_t loss;
-    size_t entries;
-};
-
-struct segmented foldwig_bench_split(const int16_t *samples, size_t samples_len, uint64_t max_segments, uint64_t p, uint64_t q,
-                                     uint16_t *starts, size_t starts_len, int16_t *levels, size_t levels_len,
-                                     uint64_t *path_sizes, size_t path_sizes_len, uint64_t *path_losses, size_t path_losses_len,
-                                     uint8_t *scratch, size_t scratch_len);
+enum { SIGNALS = 4, PENALTIES = 5, SHORT_SIGNALS = 2000 };
 
 // A signal, and how many times as fast as the plain implementation the library is wanted to be on it.
 struct signal {
@@ -32,20 +20,21 @@ struct signal {
     int16_t samples[MAX_SAMPLES];
 };
 
-// What a call is lent, and what it left there.
+// What a call is lent, and what it left there. The numbers are those of this machine, which keeps the low byte first.
 struct lent {
     uint16_t starts[MAX_SEGMENTS];
     int16_t levels[MAX_SEGMENTS];
-    uint64_t path_sizes[MAX_SEGMENTS];
+    uint16_t path_sizes[MAX_SEGMENTS];
     uint64_t path_losses[MAX_SEGMENTS];
-    uint8_t scratch[SCRATCH_LEN];
+    uint8_t scratch[FOLDWIG_SCRATCH_LEN];
 };
 
-static struct segmented library_split(const struct signal *s, size_t max_segments, int64_t p, int64_t q, struct lent *lent)
+static struct foldwig_split_result library_split(const struct signal *s, size_t max_segments, int64_t p, int64_t q, struct lent *lent)
 {
-    return foldwig_bench_split(s->samples, s->n, max_segments, (uint64_t)p, (uint64_t)q, lent->starts, MAX_SEGMENTS, lent->levels,
-                               MAX_SEGMENTS, lent->path_sizes, MAX_SEGMENTS, lent->path_losses, MAX_SEGMENTS, lent->scratch,
-                               SCRATCH_LEN);
+    return foldwig_split((const uint8_t *)s->samples, s->n * sizeof *s->samples, max_segments, (uint64_t)p, (uint64_t)q,
+                         (uint8_t *)lent->starts, sizeof lent->starts, (uint8_t *)lent->levels, sizeof lent->levels,
+                         (uint8_t *)lent->path_sizes, sizeof lent->path_sizes, (uint8_t *)lent->path_losses,
+                         sizeof lent->path_losses, lent->scratch, sizeof lent->scratch);
 }
 
 // A random number of 64 bits, the same ones each time the program is started.
@@ -90,9 +79,9 @@ static bool same_answers(const struct signal *s, size_t max_segments, int64_t p,
     int16_t levels[MAX_SEGMENTS];
     struct plain_answer plain = plain_split(s->samples, s->n, max_segments, p, q, starts, levels);
     memset(&lent, 0xa5, sizeof lent);
-    struct segmented ours = library_split(s, max_segments, p, q, &lent);
+    struct foldwig_split_result ours = library_split(s, max_segments, p, q, &lent);
     bool zero = true;
-    for (size_t i = 0; i < SCRATCH_LEN; i++)
+    for (size_t i = 0; i < FOLDWIG_SCRATCH_LEN; i++)
         zero = zero && lent.scratch[i] == 0;
     return zero && ours.refusal == 0 && ours.segments == plain.segments && ours.loss == (uint64_t)plain.loss &&
            memcmp(starts, lent.starts, plain.segments * sizeof *starts) == 0 &&

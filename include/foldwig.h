@@ -2,7 +2,7 @@
  * Foldwig: segmentation of a signal at a penalty on the number of segments, and the path of the sizes that can be the cheapest.
  *
  * This header is for C99 and for C++, on x86-64 with the usual calling convention of Linux. docs/RULES.md states all that the
- * calls do; R1 to R53 below are its rules.
+ * calls do; R1 to R59 below are its rules.
  *
  * Numbers in memory. Lists stand in byte strings, low byte first, without any demand on alignment:
  *
