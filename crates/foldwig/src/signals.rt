@@ -79,13 +79,13 @@ fn path_items(
     read_i16s(samples, sample_items);
     read_items(path_sizes, 2, size_items);
     read_items(path_losses, 8, loss_items);
-    let made = signal::signal_path(sample_items, max_segments, size_items, loss_items, scratch);
-    if made.refusal != 0 {
-        return made;
+    let path = signal::signal_path(sample_items, max_segments, size_items, loss_items, scratch);
+    if path.refusal != 0 {
+        return path;
     }
     write_items(path_sizes, 2, size_items);
     write_items(path_losses, 8, loss_items);
-    made
+    path
 }
 
 // The path of a signal: the sizes up to the limit that can be the cheapest at some penalty, with their losses.
@@ -171,7 +171,7 @@ fn split_items(
     read_i16s(levels, level_items);
     read_items(path_sizes, 2, size_items);
     read_items(path_losses, 8, loss_items);
-    let made = signal::split(
+    let split = signal::split(
         sample_items,
         max_segments,
         p,
@@ -182,14 +182,14 @@ fn split_items(
         loss_items,
         scratch,
     );
-    if made.refusal != 0 {
-        return made;
+    if split.refusal != 0 {
+        return split;
     }
     write_u16s(starts, start_items);
     write_i16s(levels, level_items);
     write_items(path_sizes, 2, size_items);
     write_items(path_losses, 8, loss_items);
-    made
+    split
 }
 
 // The segmentation of a signal at the penalty p / q, and the signal's path.
