@@ -76,8 +76,8 @@ splitByteOutcome r b =
     record { refusal = r .refusal; segments = r .segments; loss = r .loss; entries = r .entries; buffers = b }
 
 -- A refused split leaves its number, zeros, and the buffers as they were.
-abbrev pub splitBytesRefused : SplitByteBuffers → ℕ → SplitByteOutcome
-splitBytesRefused b number = record { refusal = number; segments = 0; loss = 0; entries = 0; buffers = b }
+abbrev pub splitByteRefused : SplitByteBuffers → ℕ → SplitByteOutcome
+splitByteRefused b number = record { refusal = number; segments = 0; loss = 0; entries = 0; buffers = b }
 
 -- What a split leaves, with its buffers as bytes.
 abbrev pub splitInBytes : SplitOutcome → SplitByteOutcome
@@ -93,5 +93,5 @@ splitInBytes o =
 -- The split of a signal at the penalty p / q, with at most `limit` segments.
 unfoldable pub splitBytesOf : List ℕ → ℕ → ℕ → ℕ → SplitByteBuffers → SplitByteOutcome
 splitBytesOf samples limit p q b =
-    byChecks (check 11 (splitWhole samples b) ∷ []) (splitBytesRefused b)
+    byChecks (check 11 (splitWhole samples b) ∷ []) (splitByteRefused b)
     (splitInBytes (splitOf (signeds samples) limit p q (splitNumbers b)))

@@ -8,7 +8,7 @@ ghost use lib.Dec.{eqb};
 ghost use lib.ListN.{length};
 ghost use Rattle.signal.specs.SignalPath.{pathBuffers, signalPathOutcome};
 ghost use Rattle.foldwig.specs.Signals.{signalPathBytesOf, splitByteBuffers, splitByteOutcome, splitBytesOf};
-ghost use Rattle.foldwig.specs.SignalsInner.{pathCounts, PathWithin, signalPathFront, splitCounts, SplitWithin, splitFront};
+ghost use Rattle.foldwig.specs.SignalsInner.{pathCounts, PathWithin, signalPathOfFront, splitCounts, SplitWithin, splitOfFront};
 use layout::read_i16s;
 use layout::read_items;
 use layout::read_u16s;
@@ -68,7 +68,7 @@ fn path_items(
         (pathBuffers (now «path_sizes») (now «path_losses») (now scratch)) ⌝ }
     ensures { λ r. ⌜ signalPathOutcome r
         (pathBuffers (now («path_sizes» .exit)) (now («path_losses» .exit)) (now (scratch .exit)))
-        ≡ signalPathFront
+        ≡ signalPathOfFront
         (pathCounts
         (length (now («sample_items» .entry)))
         (length (now («size_items» .entry)))
@@ -156,7 +156,7 @@ fn split_items(
         (splitByteBuffers
         (now (starts .exit)) (now (levels .exit))
         (now («path_sizes» .exit)) (now («path_losses» .exit)) (now (scratch .exit)))
-        ≡ splitFront
+        ≡ splitOfFront
         (splitCounts
         (length (now («sample_items» .entry)))
         (length (now («start_items» .entry))) (length (now («level_items» .entry)))
