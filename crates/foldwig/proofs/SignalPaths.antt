@@ -53,7 +53,7 @@ pub record PathStrings (b : PathBuffers) : Type 0 where
   pub sizes : Bytes (b .sizes)
   pub losses : Bytes (b .losses)
 
--- The path's buffers have whole items.
+-- The path's buffers are made of whole items.
 pub record WholePath (b : PathBuffers) : Type 0 where
   pub sizes : length (b .sizes) ≡ 2 * (length (b .sizes) / 2)
   pub losses : length (b .losses) ≡ 8 * (length (b .losses) / 8)

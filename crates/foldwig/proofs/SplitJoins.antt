@@ -55,7 +55,7 @@ pub record SplitStrings (b : SplitByteBuffers) : Type 0 where
   pub levels : Bytes (b .levels)
   pub path : PathStrings (b .path)
 
--- A split's buffers have whole items.
+-- A split's buffers are made of whole items.
 pub record WholeSplit (b : SplitByteBuffers) : Type 0 where
   pub starts : length (b .starts) ≡ 2 * (length (b .starts) / 2)
   pub levels : length (b .levels) ≡ 2 * (length (b .levels) / 2)

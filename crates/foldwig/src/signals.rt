@@ -24,7 +24,7 @@ use signal::SplitResult;
 // The most samples that are read, one more than a signal may have: too many stay too many.
 const READ_SAMPLES: usize = MAX_SAMPLES + 1;
 
-// Whether the samples and the buffers of a path call have whole items, by their lengths.
+// Whether the samples and the buffers of a path call are made of whole items, by their lengths.
 fn path_whole(samples: usize, sizes: usize, losses: usize) -> bool
     ensures { λ r. ⌜ r ≡ eqb (samples % 2) 0 && eqb (sizes % 2) 0 && eqb (losses % 8) 0 ⌝ }
 {
@@ -37,7 +37,7 @@ fn path_whole(samples: usize, sizes: usize, losses: usize) -> bool
     losses % 8 == 0
 }
 
-// Whether the samples and the buffers of a split have whole items, by their lengths.
+// Whether the samples and the buffers of a split are made of whole items, by their lengths.
 fn split_whole(samples: usize, starts: usize, levels: usize, sizes: usize, losses: usize) -> bool
     ensures { λ r. ⌜ r ≡ eqb (samples % 2) 0 && eqb (sizes % 2) 0 && eqb (losses % 8) 0
         && eqb (starts % 2) 0 && eqb (levels % 2) 0 ⌝ }
