@@ -27,7 +27,7 @@ le-or-lt a b = by-test (leb a b) (leb-true a b) (leb-false a b)
     by-test false f g = inr (g refl)
 
 -- The rest of the front and the rest of the list are what is left of the list.
-pub drop-cut : {A : Type 0} (m c : ℕ) (s : List A) → m ≤ c → drop m (take c s) ++ drop c s ≡ drop m s
+drop-cut : {A : Type 0} (m c : ℕ) (s : List A) → m ≤ c → drop m (take c s) ++ drop c s ≡ drop m s
 drop-cut zero c s h = take-append-drop c s
 drop-cut (suc m) zero s h = absurd (omega arith)
 drop-cut (suc m) (suc c) [] h = refl

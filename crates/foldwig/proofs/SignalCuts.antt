@@ -69,8 +69,8 @@ path-filled-cut path n b few h =
     λ i. pathBuffers (cut (λ m. m .size) (b .sizes) i) (cut (λ m. m .loss) (b .losses) i) (replicate (length (b .scratch)) 0)
 
 -- What a path call leaves in the first places, with the rest of the buffers after it.
-abbrev pub signalPathRejoined : PathBuffers → SignalPathOutcome → SignalPathOutcome
-signalPathRejoined b o = record { refusal = o .refusal; entries = o .entries; buffers = pathRejoined b (o .buffers) }
+abbrev pub signalPathOutcomeRejoined : PathBuffers → SignalPathOutcome → SignalPathOutcome
+signalPathOutcomeRejoined b o = record { refusal = o .refusal; entries = o .entries; buffers = pathRejoined b (o .buffers) }
 
 few-samples : (xs : List ℤ) → length xs ≤ maxSamples → take readSamples xs ≡ xs
 few-samples xs h = take-all readSamples xs (omega arith)
@@ -89,19 +89,19 @@ module _ (xs : List ℤ) (limit : ℕ) (b : PathBuffers) where
   abbrev pathLeft : List ℤ → PathBuffers → SignalPathOutcome
   pathLeft ys d = signalPathLeft (signalPath ys (sizeCount ys limit)) (sizeCount ys limit) d
 
-  path-left-cut : refusalOf (pathChecks xs b) ≡ 0 → pathLeft xs b ≡ signalPathRejoined b (pathLeft (take readSamples xs) (pathTaken b))
+  path-left-cut : refusalOf (pathChecks xs b) ≡ 0 → pathLeft xs b ≡ signalPathOutcomeRejoined b (pathLeft (take readSamples xs) (pathTaken b))
   path-left-cut e =
       let ok = path-solvable xs limit b e in
       let n = sizeCount xs limit in
       let path = signalPath xs n in
       let filled = path-filled-cut path n b (path-few xs n) (omega (arith, ok .few)) in
-      subst (λ (ys : List ℤ). pathLeft xs b ≡ signalPathRejoined b (pathLeft ys (pathTaken b))) (sym (few-samples xs (ok .short)))
+      subst (λ (ys : List ℤ). pathLeft xs b ≡ signalPathOutcomeRejoined b (pathLeft ys (pathTaken b))) (sym (few-samples xs (ok .short)))
       (λ i. record { refusal = 0; entries = length path; buffers = filled i })
 
-  pub signal-path-cut : signalPathOf xs limit b ≡ signalPathRejoined b (signalPathOf (take readSamples xs) limit (pathTaken b))
+  pub signal-path-cut : signalPathOf xs limit b ≡ signalPathOutcomeRejoined b (signalPathOf (take readSamples xs) limit (pathTaken b))
   unfolding signalPathOf
   signal-path-cut =
-      by-checks-cut (signalPathRejoined b) (pathChecks xs b) (pathChecks (take readSamples xs) (pathTaken b)) (signalPathRefused b) (signalPathRefused (pathTaken b))
+      by-checks-cut (signalPathOutcomeRejoined b) (pathChecks xs b) (pathChecks (take readSamples xs) (pathTaken b)) (signalPathRefused b) (signalPathRefused (pathTaken b))
       (pathLeft xs b) (pathLeft (take readSamples xs) (pathTaken b)) path-checks-cut (λ c. λ i. signalPathRefused (path-parts b i) c) path-left-cut
 
 -- One value more that is low.
@@ -151,8 +151,8 @@ split-parts b =
     λ i. record { starts = sym (take-append-drop maxSegments (b .starts)) i; levels = sym (take-append-drop maxSegments (b .levels)) i; path = path-parts (b .path) i }
 
 -- What a split leaves in the first places, with the rest of the buffers after it.
-abbrev pub outcomeRejoined : SplitBuffers → SplitOutcome → SplitOutcome
-outcomeRejoined b o =
+abbrev pub splitOutcomeRejoined : SplitBuffers → SplitOutcome → SplitOutcome
+splitOutcomeRejoined b o =
     record { refusal = o .refusal; segments = o .segments; loss = o .loss; entries = o .entries; buffers = splitRejoined b (o .buffers) }
 
 module _ (xs : List ℤ) (limit p q : ℕ) (b : SplitBuffers) where
@@ -171,7 +171,7 @@ module _ (xs : List ℤ) (limit p q : ℕ) (b : SplitBuffers) where
   abbrev left : List ℤ → SplitBuffers → SplitOutcome
   left ys d = splitAt ys (signalPath ys (sizeCount ys limit)) (sizeCount ys limit) p q d
 
-  left-cut : refusalOf (checks xs b) ≡ 0 → left xs b ≡ outcomeRejoined b (left (take readSamples xs) (splitTaken b))
+  left-cut : refusalOf (checks xs b) ≡ 0 → left xs b ≡ splitOutcomeRejoined b (left (take readSamples xs) (splitTaken b))
   left-cut e =
       let ok = splittable xs limit p q b e .solvable in
       let n = sizeCount xs limit in
@@ -181,11 +181,11 @@ module _ (xs : List ℤ) (limit p q : ℕ) (b : SplitBuffers) where
       let filled = path-filled-cut path n (b .path) (path-few xs n) (omega (arith, ok .few)) in
       let starts = overwritten-cut (startsOf (segmentation xs k)) maxSegments (b .starts) (pieces-few pieceStart xs k few) in
       let levels = overwritten-cut (levelsOf (segmentation xs k)) maxSegments (b .levels) (pieces-few pieceLevel xs k few) in
-      subst (λ (ys : List ℤ). left xs b ≡ outcomeRejoined b (left ys (splitTaken b))) (sym (few-samples xs (ok .short)))
+      subst (λ (ys : List ℤ). left xs b ≡ splitOutcomeRejoined b (left ys (splitTaken b))) (sym (few-samples xs (ok .short)))
       (λ i. record { refusal = 0; segments = k; loss = lossOf (segmentation xs k); entries = length path; buffers = record { starts = starts i; levels = levels i; path = filled i } })
 
-  pub split-cut : splitOf xs limit p q b ≡ outcomeRejoined b (splitOf (take readSamples xs) limit p q (splitTaken b))
+  pub split-cut : splitOf xs limit p q b ≡ splitOutcomeRejoined b (splitOf (take readSamples xs) limit p q (splitTaken b))
   unfolding splitOf
   split-cut =
-      by-checks-cut (outcomeRejoined b) (checks xs b) (checks (take readSamples xs) (splitTaken b)) (splitRefused b) (splitRefused (splitTaken b))
+      by-checks-cut (splitOutcomeRejoined b) (checks xs b) (checks (take readSamples xs) (splitTaken b)) (splitRefused b) (splitRefused (splitTaken b))
       (left xs b) (left (take readSamples xs) (splitTaken b)) checks-cut (λ c. λ i. splitRefused (split-parts b i) c) left-cut

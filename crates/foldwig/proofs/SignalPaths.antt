@@ -17,9 +17,9 @@ use Rattle.signal.specs.declared.SignalPathResult.{SignalPathResult}
 use Rattle.signal.proofs.Cases.{path-refused, path-refusal}
 use Rattle.foldwig.specs.Numbers.{signeds}
 use Rattle.foldwig.specs.Signals.{pathNumbers, pathBytes, pathWhole, signalPathInBytes, signalPathBytesOf}
-use Rattle.foldwig.specs.SignalsInner.{readSamples, PathCounts, PathWithin, firstSamples, pathFront, pathOver, signalPathOver, signalPathFront}
+use Rattle.foldwig.specs.SignalsInner.{readSamples, PathCounts, PathWithin, firstSamples, pathItems, pathOver, signalPathOutcomeOver, signalPathOfFront}
 use Rattle.foldwig.proofs.Joins.{front-items, items-joined, front-back, repeated-front}
-use Rattle.foldwig.proofs.SignalCuts.{pathTaken, pathRejoined, signalPathRejoined, signal-path-cut}
+use Rattle.foldwig.proofs.SignalCuts.{pathTaken, pathRejoined, signalPathOutcomeRejoined, signal-path-cut}
 
 map-take : {A B : Type 0} (f : A → B) (c : ℕ) (xs : List A) → take c (map f xs) ≡ map f (take c xs)
 map-take f zero xs = refl
@@ -53,54 +53,54 @@ pub record PathStrings (b : PathBuffers) : Type 0 where
   pub sizes : Bytes (b .sizes)
   pub losses : Bytes (b .losses)
 
--- The path's buffers have whole items.
+-- The path's buffers are made of whole items.
 pub record WholePath (b : PathBuffers) : Type 0 where
   pub sizes : length (b .sizes) ≡ 2 * (length (b .sizes) / 2)
   pub losses : length (b .losses) ≡ 8 * (length (b .losses) / 8)
 
 -- As many items are read as the byte strings have and the call looks at.
-pub record PathRead (n : PathCounts) (read : List ℕ) (b : PathBuffers) : Type 0 where
-  pub samples : n .samples ≡ min (length read / 2) readSamples
-  pub sizes : n .sizes ≡ min (length (b .sizes) / 2) maxSegments
-  pub losses : n .losses ≡ min (length (b .losses) / 8) maxSegments
+pub record PathRead (n : PathCounts) (samples : List ℕ) (b : PathBuffers) : Type 0 where
+  pub samples-read : n .samples ≡ min (length samples / 2) readSamples
+  pub sizes-read : n .sizes ≡ min (length (b .sizes) / 2) maxSegments
+  pub losses-read : n .losses ≡ min (length (b .losses) / 8) maxSegments
 
-pub path-within : (n : PathCounts) (read : List ℕ) (b : PathBuffers) → PathRead n read b → PathWithin n read b
-path-within n read b r =
-    record { samples-have = omega (arith, r .samples); sizes-have = omega (arith, r .sizes); losses-have = omega (arith, r .losses) }
+pub path-within : (n : PathCounts) (samples : List ℕ) (b : PathBuffers) → PathRead n samples b → PathWithin n samples b
+path-within n samples b r =
+    record { samples-have = omega (arith, r .samples-read); sizes-have = omega (arith, r .sizes-read); losses-have = omega (arith, r .losses-read) }
 
 module _ (n : PathCounts) (samples : List ℕ) (b : PathBuffers) (s : PathStrings b) where
   -- The first items, written back, leave the buffers as they were.
-  pub path-kept : PathWithin n samples b → pathOver n b (pathFront n b) ≡ b
+  pub path-kept : PathWithin n samples b → pathOver n b (pathItems n b) ≡ b
   path-kept h = λ i. pathBuffers (front-back 2 (b .sizes) (n .sizes) (s .sizes) (h .sizes-have) i) (front-back 8 (b .losses) (n .losses) (s .losses) (h .losses-have) i) (b .scratch)
 
   module _ (r : PathRead n samples b) where
-    pub path-read : pathTaken (pathNumbers b) ≡ pathFront n b
-    path-read = λ i. pathBuffers (items-read 2 (b .sizes) maxSegments (n .sizes) (r .sizes) i) (items-read 8 (b .losses) maxSegments (n .losses) (r .losses) i) (b .scratch)
+    pub path-read : pathTaken (pathNumbers b) ≡ pathItems n b
+    path-read = λ i. pathBuffers (items-read 2 (b .sizes) maxSegments (n .sizes) (r .sizes-read) i) (items-read 8 (b .losses) maxSegments (n .losses) (r .losses-read) i) (b .scratch)
 
     pub path-over : WholePath b → (items : PathBuffers) → pathBytes (pathRejoined (pathNumbers b) items) ≡ pathOver n b items
     path-over w items =
-        λ i. pathBuffers (items-over 2 (b .sizes) maxSegments (n .sizes) (s .sizes) (w .sizes) (r .sizes) (items .sizes) i) (items-over 8 (b .losses) maxSegments (n .losses) (s .losses) (w .losses) (r .losses) (items .losses) i) (items .scratch)
+        λ i. pathBuffers (items-over 2 (b .sizes) maxSegments (n .sizes) (s .sizes) (w .sizes) (r .sizes-read) (items .sizes) i) (items-over 8 (b .losses) maxSegments (n .losses) (s .losses) (w .losses) (r .losses-read) (items .losses) i) (items .scratch)
 
     -- The path call on the first items, over the front of the byte strings, is the call on all items.
-    pub signal-path-joined : WholePath b → (limit : ℕ) → signalPathFront n samples limit b ≡ signalPathInBytes (signalPathOf (signeds samples) limit (pathNumbers b))
+    pub signal-path-joined : WholePath b → (limit : ℕ) → signalPathOfFront n samples limit b ≡ signalPathInBytes (signalPathOf (signeds samples) limit (pathNumbers b))
     signal-path-joined w limit =
-        let o = signalPathOf (firstSamples n samples) limit (pathFront n b) in
-        let first = signeds-read samples readSamples (n .samples) (r .samples) in
+        let o = signalPathOf (firstSamples n samples) limit (pathItems n b) in
+        let first = signeds-read samples readSamples (n .samples) (r .samples-read) in
         sym (ap signalPathInBytes (signal-path-cut (signeds samples) limit (pathNumbers b))
-        ∙ (λ i. signalPathInBytes (signalPathRejoined (pathNumbers b) (signalPathOf (first i) limit (path-read i))))
+        ∙ (λ i. signalPathInBytes (signalPathOutcomeRejoined (pathNumbers b) (signalPathOf (first i) limit (path-read i))))
         ∙ (λ i. record { refusal = o .refusal; entries = o .entries; buffers = path-over w (o .buffers) i }))
 
   -- A refused path call on the first items, after which nothing is written.
   pub signal-path-unwritten : PathWithin n samples b → (limit : ℕ) (made : SignalPathResult) (after : PathBuffers)
-      → signalPathOutcome made after ≡ signalPathOf (firstSamples n samples) limit (pathFront n b) → (made .refusal ≡ 0 → ⊥)
-      → signalPathOutcome made (pathBuffers (b .sizes) (b .losses) (after .scratch)) ≡ signalPathFront n samples limit b
+      → signalPathOutcome made after ≡ signalPathOf (firstSamples n samples) limit (pathItems n b) → (made .refusal ≡ 0 → ⊥)
+      → signalPathOutcome made (pathBuffers (b .sizes) (b .losses) (after .scratch)) ≡ signalPathOfFront n samples limit b
   signal-path-unwritten h limit made after e f =
       let xs = firstSamples n samples in
-      let refused = path-refused xs limit (pathFront n b) (made .refusal) (ap (λ (o : SignalPathOutcome). o .refusal) e ∙ path-refusal xs limit (pathFront n b)) f in
+      let refused = path-refused xs limit (pathItems n b) (made .refusal) (ap (λ (o : SignalPathOutcome). o .refusal) e ∙ path-refusal xs limit (pathItems n b)) f in
       let same = e ∙ sym refused in
       (λ i. record { refusal = made .refusal; entries = same i .entries; buffers = pathBuffers (b .sizes) (b .losses) (same i .buffers .scratch) })
       ∙ (λ i. signalPathRefused (sym (path-kept h) i) (made .refusal))
-      ∙ ap (signalPathOver n b) refused
+      ∙ ap (signalPathOutcomeOver n b) refused
 
 -- The path's buffers with the items in `after` written over their front.
 pub path-written : (n : PathCounts) (b after : PathBuffers) (sizes losses : List ℕ) → length (after .sizes) ≡ n .sizes → length (after .losses) ≡ n .losses

@@ -18,10 +18,10 @@ use Rattle.signal.specs.Split.{SplitBuffers, SplitOutcome, splitOutcome, splitO
 use Rattle.signal.specs.declared.SplitResult.{SplitResult}
 use Rattle.signal.proofs.Cases.{split-refused, split-refusal}
 use Rattle.foldwig.specs.Numbers.{signeds}
-use Rattle.foldwig.specs.Signals.{pathWhole, SplitByteBuffers, splitByteBuffers, splitNumbers, splitBytes, splitWhole, splitByteOutcome, splitBytesRefused, splitInBytes, splitBytesOf}
-use Rattle.foldwig.specs.SignalsInner.{readSamples, SplitCounts, SplitWithin, firstSamples, splitFirst, buffersOver, splitOver, splitFront}
+use Rattle.foldwig.specs.Signals.{pathWhole, SplitByteBuffers, splitByteBuffers, splitNumbers, splitBytes, splitWhole, splitByteOutcome, splitByteRefused, splitInBytes, splitBytesOf}
+use Rattle.foldwig.specs.SignalsInner.{readSamples, SplitCounts, SplitWithin, firstSamples, splitItems, splitOver, splitOutcomeOver, splitOfFront}
 use Rattle.foldwig.proofs.Joins.{front-back}
-use Rattle.foldwig.proofs.SignalCuts.{splitTaken, splitRejoined, outcomeRejoined, split-cut}
+use Rattle.foldwig.proofs.SignalCuts.{splitTaken, splitRejoined, splitOutcomeRejoined, split-cut}
 use Rattle.foldwig.proofs.SignalPaths.{items-read, signeds-read, items-over, items-written, PathStrings, WholePath, PathRead, path-within, path-kept, path-read, path-over, path-written, path-is-whole}
 
 map-append : {A B : Type 0} (f : A → B) (xs ys : List A) → map f (xs ++ ys) ≡ map f xs ++ map f ys
@@ -55,36 +55,36 @@ pub record SplitStrings (b : SplitByteBuffers) : Type 0 where
   pub levels : Bytes (b .levels)
   pub path : PathStrings (b .path)
 
--- A split's buffers have whole items.
+-- A split's buffers are made of whole items.
 pub record WholeSplit (b : SplitByteBuffers) : Type 0 where
   pub starts : length (b .starts) ≡ 2 * (length (b .starts) / 2)
   pub levels : length (b .levels) ≡ 2 * (length (b .levels) / 2)
   pub path : WholePath (b .path)
 
 -- As many items are read as the byte strings have and the split looks at.
-pub record SplitRead (n : SplitCounts) (read : List ℕ) (b : SplitByteBuffers) : Type 0 where
-  pub starts : n .starts ≡ min (length (b .starts) / 2) maxSegments
-  pub levels : n .levels ≡ min (length (b .levels) / 2) maxSegments
-  pub path : PathRead (n .path) read (b .path)
+pub record SplitRead (n : SplitCounts) (samples : List ℕ) (b : SplitByteBuffers) : Type 0 where
+  pub starts-read : n .starts ≡ min (length (b .starts) / 2) maxSegments
+  pub levels-read : n .levels ≡ min (length (b .levels) / 2) maxSegments
+  pub path-is-read : PathRead (n .path) samples (b .path)
 
-pub split-within : (n : SplitCounts) (read : List ℕ) (b : SplitByteBuffers) → SplitRead n read b → SplitWithin n read b
-split-within n read b r =
-    record { starts-have = omega (arith, r .starts); levels-have = omega (arith, r .levels); path-has = path-within (n .path) read (b .path) (r .path) }
+pub split-within : (n : SplitCounts) (samples : List ℕ) (b : SplitByteBuffers) → SplitRead n samples b → SplitWithin n samples b
+split-within n samples b r =
+    record { starts-have = omega (arith, r .starts-read); levels-have = omega (arith, r .levels-read); path-has = path-within (n .path) samples (b .path) (r .path-is-read) }
 
 module _ (n : SplitCounts) (samples : List ℕ) (b : SplitByteBuffers) (s : SplitStrings b) where
   -- The first items, written back, leave the buffers as they were.
-  split-kept : SplitWithin n samples b → buffersOver n b (splitFirst n b) ≡ b
+  split-kept : SplitWithin n samples b → splitOver n b (splitItems n b) ≡ b
   split-kept h =
       let levels = ap (λ (t : List ℕ). bytesOf 2 t ++ drop (2 * n .levels) (b .levels)) (signed-items-back (b .levels) (s .levels) (n .levels)) ∙ front-back 2 (b .levels) (n .levels) (s .levels) (h .levels-have) in
       λ i. record { starts = front-back 2 (b .starts) (n .starts) (s .starts) (h .starts-have) i; levels = levels i; path = path-kept (n .path) samples (b .path) (s .path) (h .path-has) i }
 
   -- A refused split of the first items, after which nothing is written.
   pub split-unwritten : SplitWithin n samples b → (limit p q : ℕ) (made : SplitResult) (after : SplitBuffers)
-      → splitOutcome made after ≡ splitOf (firstSamples (n .path) samples) limit p q (splitFirst n b) → (made .refusal ≡ 0 → ⊥)
-      → splitByteOutcome made (splitByteBuffers (b .starts) (b .levels) (b .path .sizes) (b .path .losses) (after .path .scratch)) ≡ splitFront n samples limit p q b
+      → splitOutcome made after ≡ splitOf (firstSamples (n .path) samples) limit p q (splitItems n b) → (made .refusal ≡ 0 → ⊥)
+      → splitByteOutcome made (splitByteBuffers (b .starts) (b .levels) (b .path .sizes) (b .path .losses) (after .path .scratch)) ≡ splitOfFront n samples limit p q b
   split-unwritten h limit p q made after e f =
       let xs = firstSamples (n .path) samples in
-      let refused = split-refused xs limit p q (splitFirst n b) (made .refusal) (ap (λ (o : SplitOutcome). o .refusal) e ∙ split-refusal xs limit p q (splitFirst n b)) f in
+      let refused = split-refused xs limit p q (splitItems n b) (made .refusal) (ap (λ (o : SplitOutcome). o .refusal) e ∙ split-refusal xs limit p q (splitItems n b)) f in
       let same = e ∙ sym refused in
       (λ i.
       record {
@@ -94,35 +94,35 @@ module _ (n : SplitCounts) (samples : List ℕ) (b : SplitByteBuffers) (s : Spli
         entries = same i .entries;
         buffers = splitByteBuffers (b .starts) (b .levels) (b .path .sizes) (b .path .losses) (same i .buffers .path .scratch);
       })
-      ∙ (λ i. splitBytesRefused (sym (split-kept h) i) (made .refusal))
-      ∙ ap (splitOver n b) refused
+      ∙ (λ i. splitByteRefused (sym (split-kept h) i) (made .refusal))
+      ∙ ap (splitOutcomeOver n b) refused
 
   module _ (r : SplitRead n samples b) where
-    split-read : splitTaken (splitNumbers b) ≡ splitFirst n b
+    split-read : splitTaken (splitNumbers b) ≡ splitItems n b
     split-read =
         λ i.
         record {
-          starts = items-read 2 (b .starts) maxSegments (n .starts) (r .starts) i;
-          levels = signeds-read (b .levels) maxSegments (n .levels) (r .levels) i;
-          path = path-read (n .path) samples (b .path) (s .path) (r .path) i;
+          starts = items-read 2 (b .starts) maxSegments (n .starts) (r .starts-read) i;
+          levels = signeds-read (b .levels) maxSegments (n .levels) (r .levels-read) i;
+          path = path-read (n .path) samples (b .path) (s .path) (r .path-is-read) i;
         }
 
-    split-over : WholeSplit b → (items : SplitBuffers) → splitBytes (splitRejoined (splitNumbers b) items) ≡ buffersOver n b items
+    split-over : WholeSplit b → (items : SplitBuffers) → splitBytes (splitRejoined (splitNumbers b) items) ≡ splitOver n b items
     split-over w items =
         λ i.
         record {
-          starts = items-over 2 (b .starts) maxSegments (n .starts) (s .starts) (w .starts) (r .starts) (items .starts) i;
-          levels = signeds-over (b .levels) maxSegments (n .levels) (s .levels) (w .levels) (r .levels) (items .levels) i;
-          path = path-over (n .path) samples (b .path) (s .path) (r .path) (w .path) (items .path) i;
+          starts = items-over 2 (b .starts) maxSegments (n .starts) (s .starts) (w .starts) (r .starts-read) (items .starts) i;
+          levels = signeds-over (b .levels) maxSegments (n .levels) (s .levels) (w .levels) (r .levels-read) (items .levels) i;
+          path = path-over (n .path) samples (b .path) (s .path) (r .path-is-read) (w .path) (items .path) i;
         }
 
     -- The split of the first items, over the front of the byte strings, is the split of all items.
-    pub split-joined : WholeSplit b → (limit p q : ℕ) → splitFront n samples limit p q b ≡ splitInBytes (splitOf (signeds samples) limit p q (splitNumbers b))
+    pub split-joined : WholeSplit b → (limit p q : ℕ) → splitOfFront n samples limit p q b ≡ splitInBytes (splitOf (signeds samples) limit p q (splitNumbers b))
     split-joined w limit p q =
-        let o = splitOf (firstSamples (n .path) samples) limit p q (splitFirst n b) in
-        let first = signeds-read samples readSamples (n .path .samples) (r .path .samples) in
+        let o = splitOf (firstSamples (n .path) samples) limit p q (splitItems n b) in
+        let first = signeds-read samples readSamples (n .path .samples) (r .path-is-read .samples-read) in
         sym (ap splitInBytes (split-cut (signeds samples) limit p q (splitNumbers b))
-        ∙ (λ i. splitInBytes (outcomeRejoined (splitNumbers b) (splitOf (first i) limit p q (split-read i))))
+        ∙ (λ i. splitInBytes (splitOutcomeRejoined (splitNumbers b) (splitOf (first i) limit p q (split-read i))))
         ∙ (λ i. record { refusal = o .refusal; segments = o .segments; loss = o .loss; entries = o .entries; buffers = split-over w (o .buffers) i }))
 
 -- An accepted split of the first items, whose lists are written over the front of the byte strings.
@@ -132,7 +132,7 @@ pub split-written : (n : SplitCounts) (b : SplitByteBuffers) (o : SplitOutcome) 
     → levels ≡ bytesOf 2 (map unsignedOf (after .levels)) ++ drop (2 * length (after .levels)) (b .levels)
     → sizes ≡ bytesOf 2 (after .path .sizes) ++ drop (2 * length (after .path .sizes)) (b .path .sizes)
     → losses ≡ bytesOf 8 (after .path .losses) ++ drop (8 * length (after .path .losses)) (b .path .losses)
-    → splitByteOutcome made (splitByteBuffers starts levels sizes losses (after .path .scratch)) ≡ splitOver n b o
+    → splitByteOutcome made (splitByteBuffers starts levels sizes losses (after .path .scratch)) ≡ splitOutcomeOver n b o
 split-written n b o made after e starts levels sizes losses f g h k x y z u =
     (λ i.
     splitByteOutcome made record {
@@ -140,17 +140,17 @@ split-written n b o made after e starts levels sizes losses f g h k x y z u =
       levels = items-written 2 (b .levels) (map unsignedOf (after .levels)) levels y g i;
       path = path-written (n .path) (b .path) (after .path) sizes losses h k z u i;
     })
-    ∙ ap (splitOver n b) e
+    ∙ ap (splitOutcomeOver n b) e
 
 -- The call by cases.
 module _ (samples : List ℕ) (limit p q : ℕ) (b : SplitByteBuffers) where
-  pub split-eleven : splitWhole samples b ≡ false → splitBytesRefused b 11 ≡ splitBytesOf samples limit p q b
+  pub split-eleven : splitWhole samples b ≡ false → splitByteRefused b 11 ≡ splitBytesOf samples limit p q b
   unfolding splitBytesOf
-  split-eleven h = refuses (check 11 (splitWhole samples b) ∷ []) (splitBytesRefused b) _ 11 (sym (check-fails (check 11 (splitWhole samples b)) [] h)) (λ z. omega arith)
+  split-eleven h = refuses (check 11 (splitWhole samples b) ∷ []) (splitByteRefused b) _ 11 (sym (check-fails (check 11 (splitWhole samples b)) [] h)) (λ z. omega arith)
 
   pub split-whole : splitWhole samples b ≡ true → splitInBytes (splitOf (signeds samples) limit p q (splitNumbers b)) ≡ splitBytesOf samples limit p q b
   unfolding splitBytesOf
-  split-whole h = accepts (check 11 (splitWhole samples b) ∷ []) (splitBytesRefused b) _ (last-passes (check 11 (splitWhole samples b)) h)
+  split-whole h = accepts (check 11 (splitWhole samples b) ∷ []) (splitByteRefused b) _ (last-passes (check 11 (splitWhole samples b)) h)
 
   pub split-is-whole : splitWhole samples b ≡ true → WholeSplit b
   split-is-whole h =

@@ -1,6 +1,6 @@
--- The calls on signals over byte strings: samples and levels are items of two bytes with a sign, starts and sizes of two without one,
--- losses of eight, and the scratch is bytes. A call decodes what it is lent, is the call on numbers, and encodes what that leaves.
--- Where a byte string has no whole items the call is refused under 11 before anything else.
+-- The calls on signals over byte strings. Samples and levels are items of two bytes with a sign, starts and sizes items of two
+-- without one, losses items of eight, and the scratch is bytes. What is lent is decoded, the call on numbers is made, and what it
+-- leaves is encoded. A byte string that is not made of whole items is refused under 11, before any other check.
 use mathlib.Core.Bool.{Bool, _&&_}
 use mathlib.Core.List.{List, [], _∷_, map}
 use Prim.Native.Nat.{ℕ}
@@ -19,7 +19,7 @@ pathNumbers b = pathBuffers (shorts (b .sizes)) (longs (b .losses)) (b .scratch)
 abbrev pub pathBytes : PathBuffers → PathBuffers
 pathBytes b = pathBuffers (bytesOf 2 (b .sizes)) (bytesOf 8 (b .losses)) (b .scratch)
 
--- The samples and the buffers of a path call have whole items.
+-- The samples and the buffers of a path call are made of whole items.
 abbrev pub pathWhole : List ℕ → PathBuffers → Bool
 pathWhole samples b = wholeItems 2 samples && wholeItems 2 (b .sizes) && wholeItems 8 (b .losses)
 
@@ -57,12 +57,12 @@ splitBytes b =
       path = pathBytes (b .path);
     }
 
--- The samples and the buffers of a split have whole items.
+-- The samples and the buffers of a split are made of whole items.
 abbrev pub splitWhole : List ℕ → SplitByteBuffers → Bool
 splitWhole samples b = pathWhole samples (b .path) && wholeItems 2 (b .starts) && wholeItems 2 (b .levels)
 
--- What a split on bytes leaves: the refusal (0 where it is accepted), the number of segments, their loss, the number of entries, and
--- the buffers.
+-- What a split on bytes leaves: the refusal (0 where it is accepted), the number of segments, their loss, the number of entries,
+-- and the buffers.
 pub record SplitByteOutcome : Type 0 where
   pub refusal : ℕ
   pub segments : ℕ
@@ -76,8 +76,8 @@ splitByteOutcome r b =
     record { refusal = r .refusal; segments = r .segments; loss = r .loss; entries = r .entries; buffers = b }
 
 -- A refused split leaves its number, zeros, and the buffers as they were.
-abbrev pub splitBytesRefused : SplitByteBuffers → ℕ → SplitByteOutcome
-splitBytesRefused b number = record { refusal = number; segments = 0; loss = 0; entries = 0; buffers = b }
+abbrev pub splitByteRefused : SplitByteBuffers → ℕ → SplitByteOutcome
+splitByteRefused b number = record { refusal = number; segments = 0; loss = 0; entries = 0; buffers = b }
 
 -- What a split leaves, with its buffers as bytes.
 abbrev pub splitInBytes : SplitOutcome → SplitByteOutcome
@@ -93,5 +93,5 @@ splitInBytes o =
 -- The split of a signal at the penalty p / q, with at most `limit` segments.
 unfoldable pub splitBytesOf : List ℕ → ℕ → ℕ → ℕ → SplitByteBuffers → SplitByteOutcome
 splitBytesOf samples limit p q b =
-    byChecks (check 11 (splitWhole samples b) ∷ []) (splitBytesRefused b)
+    byChecks (check 11 (splitWhole samples b) ∷ []) (splitByteRefused b)
     (splitInBytes (splitOf (signeds samples) limit p q (splitNumbers b)))

@@ -25,8 +25,8 @@ abbrev pub pathCounts : ℕ → ℕ → ℕ → PathCounts
 pathCounts samples sizes losses = record { samples = samples; sizes = sizes; losses = losses }
 
 -- The byte strings have as many items.
-pub record PathWithin (n : PathCounts) (read : List ℕ) (b : PathBuffers) : Type 0 where
-  pub samples-have : 2 * n .samples ≤ length read
+pub record PathWithin (n : PathCounts) (samples : List ℕ) (b : PathBuffers) : Type 0 where
+  pub samples-have : 2 * n .samples ≤ length samples
   pub sizes-have : 2 * n .sizes ≤ length (b .sizes)
   pub losses-have : 8 * n .losses ≤ length (b .losses)
 
@@ -35,8 +35,8 @@ abbrev pub firstSamples : PathCounts → List ℕ → List ℤ
 firstSamples n bytes = map signedOf (itemsTo 2 bytes (n .samples))
 
 -- The first items of the path's buffers.
-abbrev pub pathFront : PathCounts → PathBuffers → PathBuffers
-pathFront n b = pathBuffers (itemsTo 2 (b .sizes) (n .sizes)) (itemsTo 8 (b .losses) (n .losses)) (b .scratch)
+abbrev pub pathItems : PathCounts → PathBuffers → PathBuffers
+pathItems n b = pathBuffers (itemsTo 2 (b .sizes) (n .sizes)) (itemsTo 8 (b .losses) (n .losses)) (b .scratch)
 
 -- Items of the path's buffers over the front of the byte strings, whose rest stays.
 abbrev pub pathOver : PathCounts → PathBuffers → PathBuffers → PathBuffers
@@ -47,12 +47,12 @@ pathOver n b items =
     (items .scratch)
 
 -- What a path call on the first items leaves, over the front of the byte strings.
-abbrev pub signalPathOver : PathCounts → PathBuffers → SignalPathOutcome → SignalPathOutcome
-signalPathOver n b o = record { refusal = o .refusal; entries = o .entries; buffers = pathOver n b (o .buffers) }
+abbrev pub signalPathOutcomeOver : PathCounts → PathBuffers → SignalPathOutcome → SignalPathOutcome
+signalPathOutcomeOver n b o = record { refusal = o .refusal; entries = o .entries; buffers = pathOver n b (o .buffers) }
 
 -- The path call on the first items.
-abbrev pub signalPathFront : PathCounts → List ℕ → ℕ → PathBuffers → SignalPathOutcome
-signalPathFront n samples limit b = signalPathOver n b (signalPathOf (firstSamples n samples) limit (pathFront n b))
+abbrev pub signalPathOfFront : PathCounts → List ℕ → ℕ → PathBuffers → SignalPathOutcome
+signalPathOfFront n samples limit b = signalPathOutcomeOver n b (signalPathOf (firstSamples n samples) limit (pathItems n b))
 
 -- How many items of each byte string a split reads.
 pub record SplitCounts : Type 0 where
@@ -66,23 +66,23 @@ splitCounts samples starts levels sizes losses =
     record { starts = starts; levels = levels; path = pathCounts samples sizes losses }
 
 -- The byte strings have as many items.
-pub record SplitWithin (n : SplitCounts) (read : List ℕ) (b : SplitByteBuffers) : Type 0 where
+pub record SplitWithin (n : SplitCounts) (samples : List ℕ) (b : SplitByteBuffers) : Type 0 where
   pub starts-have : 2 * n .starts ≤ length (b .starts)
   pub levels-have : 2 * n .levels ≤ length (b .levels)
-  pub path-has : PathWithin (n .path) read (b .path)
+  pub path-has : PathWithin (n .path) samples (b .path)
 
 -- The first items of a split's buffers.
-abbrev pub splitFirst : SplitCounts → SplitByteBuffers → SplitBuffers
-splitFirst n b =
+abbrev pub splitItems : SplitCounts → SplitByteBuffers → SplitBuffers
+splitItems n b =
     record {
       starts = itemsTo 2 (b .starts) (n .starts);
       levels = map signedOf (itemsTo 2 (b .levels) (n .levels));
-      path = pathFront (n .path) (b .path);
+      path = pathItems (n .path) (b .path);
     }
 
 -- Items of a split's buffers over the front of the byte strings, whose rest stays.
-abbrev pub buffersOver : SplitCounts → SplitByteBuffers → SplitBuffers → SplitByteBuffers
-buffersOver n b items =
+abbrev pub splitOver : SplitCounts → SplitByteBuffers → SplitBuffers → SplitByteBuffers
+splitOver n b items =
     record {
       starts = bytesOf 2 (items .starts) ++ drop (2 * n .starts) (b .starts);
       levels = bytesOf 2 (map unsignedOf (items .levels)) ++ drop (2 * n .levels) (b .levels);
@@ -90,16 +90,16 @@ buffersOver n b items =
     }
 
 -- What a split of the first items leaves, over the front of the byte strings.
-abbrev pub splitOver : SplitCounts → SplitByteBuffers → SplitOutcome → SplitByteOutcome
-splitOver n b o =
+abbrev pub splitOutcomeOver : SplitCounts → SplitByteBuffers → SplitOutcome → SplitByteOutcome
+splitOutcomeOver n b o =
     record {
       refusal = o .refusal;
       segments = o .segments;
       loss = o .loss;
       entries = o .entries;
-      buffers = buffersOver n b (o .buffers);
+      buffers = splitOver n b (o .buffers);
     }
 
 -- The split of the first items.
-abbrev pub splitFront : SplitCounts → List ℕ → ℕ → ℕ → ℕ → SplitByteBuffers → SplitByteOutcome
-splitFront n samples limit p q b = splitOver n b (splitOf (firstSamples (n .path) samples) limit p q (splitFirst n b))
+abbrev pub splitOfFront : SplitCounts → List ℕ → ℕ → ℕ → ℕ → SplitByteBuffers → SplitByteOutcome
+splitOfFront n samples limit p q b = splitOutcomeOver n b (splitOf (firstSamples (n .path) samples) limit p q (splitItems n b))

@@ -1,5 +1,5 @@
-// The calls in C, on numbers and byte strings. Each decodes the items that it may look at to lists of its own, calls the crates below
-// on these, and where the call is accepted encodes what may have changed.
+// The calls in C, on numbers and byte strings. Each decodes the items that it may look at to lists of its own, calls the crates
+// below on these, and where the call is accepted encodes what may have changed.
 
 pub mod paths;
 pub mod signals;

@@ -8,7 +8,7 @@ ghost use lib.Dec.{eqb};
 ghost use lib.ListN.{length};
 ghost use Rattle.signal.specs.SignalPath.{pathBuffers, signalPathOutcome};
 ghost use Rattle.foldwig.specs.Signals.{signalPathBytesOf, splitByteBuffers, splitByteOutcome, splitBytesOf};
-ghost use Rattle.foldwig.specs.SignalsInner.{pathCounts, PathWithin, signalPathFront, splitCounts, SplitWithin, splitFront};
+ghost use Rattle.foldwig.specs.SignalsInner.{pathCounts, PathWithin, signalPathOfFront, splitCounts, SplitWithin, splitOfFront};
 use layout::read_i16s;
 use layout::read_items;
 use layout::read_u16s;
@@ -24,7 +24,7 @@ use signal::SplitResult;
 // The most samples that are read, one more than a signal may have: too many stay too many.
 const READ_SAMPLES: usize = MAX_SAMPLES + 1;
 
-// Whether the samples and the buffers of a path call have whole items, by their lengths.
+// Whether the samples and the buffers of a path call are made of whole items, by their lengths.
 fn path_whole(samples: usize, sizes: usize, losses: usize) -> bool
     ensures { λ r. ⌜ r ≡ eqb (samples % 2) 0 && eqb (sizes % 2) 0 && eqb (losses % 8) 0 ⌝ }
 {
@@ -37,7 +37,7 @@ fn path_whole(samples: usize, sizes: usize, losses: usize) -> bool
     losses % 8 == 0
 }
 
-// Whether the samples and the buffers of a split have whole items, by their lengths.
+// Whether the samples and the buffers of a split are made of whole items, by their lengths.
 fn split_whole(samples: usize, starts: usize, levels: usize, sizes: usize, losses: usize) -> bool
     ensures { λ r. ⌜ r ≡ eqb (samples % 2) 0 && eqb (sizes % 2) 0 && eqb (losses % 8) 0
         && eqb (starts % 2) 0 && eqb (levels % 2) 0 ⌝ }
@@ -68,7 +68,7 @@ fn path_items(
         (pathBuffers (now «path_sizes») (now «path_losses») (now scratch)) ⌝ }
     ensures { λ r. ⌜ signalPathOutcome r
         (pathBuffers (now («path_sizes» .exit)) (now («path_losses» .exit)) (now (scratch .exit)))
-        ≡ signalPathFront
+        ≡ signalPathOfFront
         (pathCounts
         (length (now («sample_items» .entry)))
         (length (now («size_items» .entry)))
@@ -79,13 +79,13 @@ fn path_items(
     read_i16s(samples, sample_items);
     read_items(path_sizes, 2, size_items);
     read_items(path_losses, 8, loss_items);
-    let made = signal::signal_path(sample_items, max_segments, size_items, loss_items, scratch);
-    if made.refusal != 0 {
-        return made;
+    let path = signal::signal_path(sample_items, max_segments, size_items, loss_items, scratch);
+    if path.refusal != 0 {
+        return path;
     }
     write_items(path_sizes, 2, size_items);
     write_items(path_losses, 8, loss_items);
-    made
+    path
 }
 
 // The path of a signal: the sizes up to the limit that can be the cheapest at some penalty, with their losses.
@@ -156,7 +156,7 @@ fn split_items(
         (splitByteBuffers
         (now (starts .exit)) (now (levels .exit))
         (now («path_sizes» .exit)) (now («path_losses» .exit)) (now (scratch .exit)))
-        ≡ splitFront
+        ≡ splitOfFront
         (splitCounts
         (length (now («sample_items» .entry)))
         (length (now («start_items» .entry))) (length (now («level_items» .entry)))
@@ -171,7 +171,7 @@ fn split_items(
     read_i16s(levels, level_items);
     read_items(path_sizes, 2, size_items);
     read_items(path_losses, 8, loss_items);
-    let made = signal::split(
+    let split = signal::split(
         sample_items,
         max_segments,
         p,
@@ -182,14 +182,14 @@ fn split_items(
         loss_items,
         scratch,
     );
-    if made.refusal != 0 {
-        return made;
+    if split.refusal != 0 {
+        return split;
     }
     write_u16s(starts, start_items);
     write_i16s(levels, level_items);
     write_items(path_sizes, 2, size_items);
     write_items(path_losses, 8, loss_items);
-    made
+    split
 }
 
 // The segmentation of a signal at the penalty p / q, and the signal's path.

@@ -31,9 +31,9 @@ read c =
     let s = c .before .smaller2 .ensures in
     let l = c .smaller3 .ensures in
     record {
-      samples = smaller-front {A = ℤ} (pos 0) readSamples _ n ∙ n;
-      sizes = smaller-front {A = ℕ} 0 maxSegments _ s ∙ s;
-      losses = smaller-front {A = ℕ} 0 maxSegments _ l ∙ l;
+      samples-read = smaller-front {A = ℤ} (pos 0) readSamples _ n ∙ n;
+      sizes-read = smaller-front {A = ℕ} 0 maxSegments _ s ∙ s;
+      losses-read = smaller-front {A = ℕ} 0 maxSegments _ l ∙ l;
     }
 
 path-whole-requires : tie.Need-path-whole-requires

@@ -36,12 +36,12 @@ read c =
     let s = c .before .smaller4 .ensures in
     let l = c .smaller5 .ensures in
     record {
-      starts = smaller-front {A = ℕ} 0 maxSegments _ a ∙ a;
-      levels = smaller-front {A = ℤ} (pos 0) maxSegments _ b ∙ b;
-      path = record {
-        samples = smaller-front {A = ℤ} (pos 0) readSamples _ n ∙ n;
-        sizes = smaller-front {A = ℕ} 0 maxSegments _ s ∙ s;
-        losses = smaller-front {A = ℕ} 0 maxSegments _ l ∙ l;
+      starts-read = smaller-front {A = ℕ} 0 maxSegments _ a ∙ a;
+      levels-read = smaller-front {A = ℤ} (pos 0) maxSegments _ b ∙ b;
+      path-is-read = record {
+        samples-read = smaller-front {A = ℤ} (pos 0) readSamples _ n ∙ n;
+        sizes-read = smaller-front {A = ℕ} 0 maxSegments _ s ∙ s;
+        losses-read = smaller-front {A = ℕ} 0 maxSegments _ l ∙ l;
       };
     }
 

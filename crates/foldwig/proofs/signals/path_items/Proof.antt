@@ -3,7 +3,7 @@ use mathlib.Core.Path.{ap, _∙_}
 use native.Mathlib.Omega.{arith}
 use lib.ListN.{length}
 use Rattle.signal.specs.SignalPath.{PathBuffers, pathBuffers, signalPathOutcome, signalPathOf}
-use Rattle.foldwig.specs.SignalsInner.{PathCounts, pathCounts, signalPathOver}
+use Rattle.foldwig.specs.SignalsInner.{PathCounts, pathCounts, signalPathOutcomeOver}
 use Rattle.foldwig.proofs.SignalPaths.{path-written, signal-path-unwritten}
 use borrow.Author.Needs.{needs}
 use Rattle.foldwig.proofs.signals.path_items.Statement.{statement}
@@ -94,7 +94,7 @@ returns-2 c =
     (path-written (counts start) (lent start) _ _ _
     (made .kept .1 .1 .0 ∙ c .before .before .before .before .before .before .before .before .before .before .before .before .before .before .before .before .before .before .before .before .before .before .before .before .before .before .before .before .before .before .read-items .kept .1 .1 .0) (made .kept .1 .1 .1 .0 ∙ c .before .before .before .before .before .before .before .before .before .before .before .before .before .before .before .before .before .before .before .before .before .before .before .before .before .read-items2 .kept .1 .1 .0)
     (c .before .before .before .before .before .before .before .write-items .ensures) (c .before .before .write-items2 .ensures))
-    ∙ ap (signalPathOver (counts start) (lent start)) is
+    ∙ ap (signalPathOutcomeOver (counts start) (lent start)) is
 
 pub path-items-spec : {M : Type 1} → statement M
 path-items-spec =
