@@ -104,4 +104,4 @@ module _ (s l : List ℕ) (n : ℕ) (x y : List ℕ) where
       sym (ap breakpointsInBytes (breakpoints-cut c (itemsOf 2 s) (itemsOf 8 l) n (itemsOf 8 x) (itemsOf 2 y) (enough-places n c ec))
       ∙ (λ i. breakpointsInBytes (breakpointsLonger (drop c (itemsOf 8 x)) (drop c (itemsOf 2 y)) (breakpointsOf (counted-items 2 s c a ea i) (counted-items 8 l c b eb i) n (counted-items 8 x c d ed i) (counted-items 2 y c f ef i))))
       ∙ (λ i. record { refusal = o .refusal; count = o .count; numerators = numerators i; denominators = denominators i }))
-      ∙ on-layout (breakpointsRefused x y) _ (wholeItems 2 s && wholeItems 8 l && wholeItems 2 y && wholeItems 8 x) (rw first second)
+      ∙ on-layout _ _ (wholeItems 2 s && wholeItems 8 l && wholeItems 2 y && wholeItems 8 x) (rw first second)

@@ -74,7 +74,7 @@ module _ (s l : List ℕ) (n : ℕ) (m : Model) where
       sym (path-joined s l c a b bs bl whole ea eb (appendOf (itemsTo 2 s a) (itemsTo 8 l b) n m))
       ∙ (λ i. pathInBytes (pathLonger (drop c (itemsOf 2 s)) (drop c (itemsOf 8 l)) (appendOf (sizes i) (losses i) n m)))
       ∙ ap pathInBytes (sym (append-cut c (itemsOf 2 s) (itemsOf 8 l) n m (enough-places (suc n) c (omega arith))))
-      ∙ on-layout (pathRefused s l) _ (wholeItems 2 s && wholeItems 8 l) whole
+      ∙ on-layout _ _ (wholeItems 2 s && wholeItems 8 l) whole
 
 -- A selection from two byte strings.
 module _ (s l : List ℕ) (n p q : ℕ) where
@@ -83,7 +83,7 @@ module _ (s l : List ℕ) (n p q : ℕ) where
   unfolding selectBytesOf
   select-bytes whole c a b ec ea eb =
       sym (select-cut c (itemsOf 2 s) (itemsOf 8 l) p q n (enough-places n c ec) ∙ (λ i. selectOf (counted-items 2 s c a ea i) (counted-items 8 l c b eb i) n p q))
-      ∙ on-layout selectRefused _ (wholeItems 2 s && wholeItems 8 l) whole
+      ∙ on-layout _ _ (wholeItems 2 s && wholeItems 8 l) whole
 
 -- A build from two byte strings in two others.
 module _ (x y s l : List ℕ) where
@@ -99,4 +99,4 @@ module _ (x y s l : List ℕ) where
       sym (path-joined s l maxModels c d bs bl second ec ed (buildOf (itemsTo 2 x a) (itemsTo 8 y b) (itemsTo 2 s c) (itemsTo 8 l d)))
       ∙ (λ i. pathInBytes (pathLonger (drop maxModels (itemsOf 2 s)) (drop maxModels (itemsOf 8 l)) (buildOf (sizes i) (losses i) (path-sizes i) (path-losses i))))
       ∙ ap pathInBytes (sym (build-cut (itemsOf 2 x) (itemsOf 8 y) (itemsOf 2 s) (itemsOf 8 l) maxModels (omega arith) (maxModels + 1) (omega arith)))
-      ∙ on-layout (pathRefused s l) _ (wholeItems 2 x && wholeItems 8 y && wholeItems 2 s && wholeItems 8 l) (rw first second)
+      ∙ on-layout _ _ (wholeItems 2 x && wholeItems 8 y && wholeItems 2 s && wholeItems 8 l) (rw first second)
