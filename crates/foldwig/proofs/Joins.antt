@@ -1,9 +1,9 @@
--- From the front of a byte string to the whole of it: the items of the front, and the bytes that items over the front leave with
--- the rest.
+-- From the front of a byte string to the whole of it: the items of the front, the bytes that items over the front leave with the
+-- rest, a call by the layout of its strings, and the front of a list that a call makes for items.
 use mathlib.Core.Path.{_≡_, ap, sym, subst, _∙_}
-use mathlib.Core.Bool.{true}
+use mathlib.Core.Bool.{Bool, true, false}
 use mathlib.Core.Logic.{⊎-elim}
-use mathlib.Core.List.{List, _++_}
+use mathlib.Core.List.{List, [], _∷_, _++_}
 use Prim.Native.Nat.{ℕ, _*_, _/_, _%_, _≤_, _<_, min}
 use native.Mathlib.Nat.{div-add-mod', mul-comm}
 use native.Mathlib.Omega.{arith}
@@ -12,6 +12,8 @@ use lib.ListN.{length, take, drop, replicate, take-append-drop, drop-of-length-l
 use lib.Seq.{take-all, length-take-le}
 use Rattle.layout.specs.Items.{itemsTo, itemsOf, bytesOf, wholeItems}
 use Rattle.layout.proofs.ItemLists.{Bytes, length-items, take-items, bytes-append, bytes-items, bytes-rest}
+use Rattle.path.specs.Refusal.{check, byChecks}
+use Rattle.path.proofs.Checks.{check-fails, last-passes, refuses, accepts}
 use Rattle.foldwig.proofs.Cuts.{le-or-lt}
 
 -- A string of whole items is as long as its items.
@@ -61,6 +63,14 @@ front-back k bytes a b h = ap (λ (r : List ℕ). r ++ drop (k * a) bytes) (byte
 -- A front that was written from a list of a items.
 pub front-written : (k : ℕ) (bytes left items : List ℕ) (a : ℕ) → left ≡ bytesOf k items ++ drop (k * length items) bytes → length items ≡ a → left ≡ bytesOf k items ++ drop (k * a) bytes
 front-written k bytes left items a e h = e ∙ ap (λ (j : ℕ). bytesOf k items ++ drop (k * j) bytes) h
+
+-- A call that tests the layout of its strings before anything else.
+module _ {A : Type 0} (refused : ℕ → A) (accepted : A) (b : Bool) where
+  pub off-layout : b ≡ false → refused 11 ≡ byChecks (check 11 b ∷ []) refused accepted
+  off-layout h = refuses (check 11 b ∷ []) refused accepted 11 (sym (check-fails (check 11 b) [] h)) (λ z. omega arith)
+
+  pub on-layout : b ≡ true → accepted ≡ byChecks (check 11 b ∷ []) refused accepted
+  on-layout h = accepts (check 11 b ∷ []) refused accepted (last-passes (check 11 b) h)
 
 -- The front of a list that is made of one value.
 pub repeated-front : {A : Type 0} (z : A) (n a : ℕ) → a ≤ n → length (take a (replicate n z)) ≡ a

@@ -1,6 +1,6 @@
 -- A listing of breakpoints: on the front of its lists, and from there to the whole of the byte strings.
 use mathlib.Core.Path.{_≡_, refl, ap, sym, subst, _∙_}
-use mathlib.Core.Bool.{Bool, true, false, _&&_}
+use mathlib.Core.Bool.{Bool, true, _&&_}
 use mathlib.Core.Logic.{_⊎_}
 use mathlib.Core.List.{List, [], _∷_, _++_}
 use Prim.Native.Nat.{ℕ, _*_, _-_, _/_, _≤_, min}
@@ -13,14 +13,14 @@ use Rattle.path.specs.Update.{Fraction, pathBreakpoints}
 use Rattle.path.specs.Refusal.{check, refusalOf, maxModels, roomFor, validPath}
 use Rattle.path.proofs.Paths.{length-values}
 use Rattle.path.proofs.Order.{valid-parts}
-use Rattle.path.proofs.Checks.{both, check-fails, check-passes, last-passes, refuses, accepts}
+use Rattle.path.proofs.Checks.{both}
 use Rattle.select.specs.Breakpoints.{BreakpointsOutcome, breakpointsOutcome, breakpointsRefused, breakpointsLeft, numeratorsOf, denominatorsOf, breakpointsChecks, breakpointsOf}
 use Rattle.select.specs.declared.BreakpointsResult.{BreakpointsResult}
 use Rattle.select.proofs.Listings.{breakpoints-counted, breakpoints-refusal, breakpoints-refused, listable}
 use Rattle.foldwig.specs.Paths.{breakpointsInBytes, breakpointsBytesOf}
 use Rattle.foldwig.specs.PathsInner.{Holds, breakpointsOverFront}
 use Rattle.foldwig.proofs.Cuts.{overwritten-cut, leb-take, same-cond, by-checks-cut}
-use Rattle.foldwig.proofs.Joins.{counted-items, counted-joined, front-back, front-written}
+use Rattle.foldwig.proofs.Joins.{counted-items, counted-joined, front-back, front-written, on-layout}
 use Rattle.foldwig.proofs.PathCuts.{enough-places, path-cut, few-within, valid-cut}
 
 -- An outcome with more at the end of its buffers.
@@ -92,27 +92,16 @@ breakpoints-keeps s l n x y r e h = sym (breakpoints-refused s l n x y r (e ∙ 
 
 -- A listing from two byte strings to two others.
 module _ (s l : List ℕ) (n : ℕ) (x y : List ℕ) where
-  pub path-off-layout : (wholeItems 2 s && wholeItems 8 l) ≡ false → breakpointsRefused x y 11 ≡ breakpointsBytesOf s l n x y
+  pub breakpoints-bytes : (wholeItems 2 s && wholeItems 8 l) ≡ true → (wholeItems 2 y && wholeItems 8 x) ≡ true → Bytes x → Bytes y → (c a b d f : ℕ)
+      → c ≡ min n maxModels → a ≡ min (length s / 2) c → b ≡ min (length l / 8) c → d ≡ min (length x / 8) c → f ≡ min (length y / 2) c
+      → breakpointsOverFront d f x y (breakpointsOf (itemsTo 2 s a) (itemsTo 8 l b) n (itemsTo 8 x d) (itemsTo 2 y f)) ≡ breakpointsBytesOf s l n x y
   unfolding breakpointsBytesOf
-  path-off-layout h =
-      refuses _ (breakpointsRefused x y) _ 11 (sym (check-fails (check 11 (wholeItems 2 s && wholeItems 8 l)) _ h)) (λ z. omega arith)
-
-  module _ (first : (wholeItems 2 s && wholeItems 8 l) ≡ true) where
-    pub breakpoints-off-layout : (wholeItems 2 y && wholeItems 8 x) ≡ false → breakpointsRefused x y 11 ≡ breakpointsBytesOf s l n x y
-    unfolding breakpointsBytesOf
-    breakpoints-off-layout h =
-        refuses _ (breakpointsRefused x y) _ 11 (sym (check-passes (check 11 (wholeItems 2 s && wholeItems 8 l)) _ first ∙ check-fails (check 11 (wholeItems 2 y && wholeItems 8 x)) [] h)) (λ z. omega arith)
-
-    pub breakpoints-bytes : (wholeItems 2 y && wholeItems 8 x) ≡ true → Bytes x → Bytes y → (c a b d f : ℕ)
-        → c ≡ min n maxModels → a ≡ min (length s / 2) c → b ≡ min (length l / 8) c → d ≡ min (length x / 8) c → f ≡ min (length y / 2) c
-        → breakpointsOverFront d f x y (breakpointsOf (itemsTo 2 s a) (itemsTo 8 l b) n (itemsTo 8 x d) (itemsTo 2 y f)) ≡ breakpointsBytesOf s l n x y
-    unfolding breakpointsBytesOf
-    breakpoints-bytes second bx by c a b d f ec ea eb ed ef =
-        let w = both (wholeItems 2 y) (wholeItems 8 x) second in
-        let o = breakpointsOf (itemsTo 2 s a) (itemsTo 8 l b) n (itemsTo 8 x d) (itemsTo 2 y f) in
-        let numerators = counted-joined 8 x c d ed bx (w .1) (o .numerators) in
-        let denominators = counted-joined 2 y c f ef by (w .0) (o .denominators) in
-        sym (ap breakpointsInBytes (breakpoints-cut c (itemsOf 2 s) (itemsOf 8 l) n (itemsOf 8 x) (itemsOf 2 y) (enough-places n c ec))
-        ∙ (λ i. breakpointsInBytes (breakpointsLonger (drop c (itemsOf 8 x)) (drop c (itemsOf 2 y)) (breakpointsOf (counted-items 2 s c a ea i) (counted-items 8 l c b eb i) n (counted-items 8 x c d ed i) (counted-items 2 y c f ef i))))
-        ∙ (λ i. record { refusal = o .refusal; count = o .count; numerators = numerators i; denominators = denominators i }))
-        ∙ accepts _ (breakpointsRefused x y) _ (check-passes (check 11 (wholeItems 2 s && wholeItems 8 l)) _ first ∙ last-passes (check 11 (wholeItems 2 y && wholeItems 8 x)) second)
+  breakpoints-bytes first second bx by c a b d f ec ea eb ed ef =
+      let w = both (wholeItems 2 y) (wholeItems 8 x) second in
+      let o = breakpointsOf (itemsTo 2 s a) (itemsTo 8 l b) n (itemsTo 8 x d) (itemsTo 2 y f) in
+      let numerators = counted-joined 8 x c d ed bx (w .1) (o .numerators) in
+      let denominators = counted-joined 2 y c f ef by (w .0) (o .denominators) in
+      sym (ap breakpointsInBytes (breakpoints-cut c (itemsOf 2 s) (itemsOf 8 l) n (itemsOf 8 x) (itemsOf 2 y) (enough-places n c ec))
+      ∙ (λ i. breakpointsInBytes (breakpointsLonger (drop c (itemsOf 8 x)) (drop c (itemsOf 2 y)) (breakpointsOf (counted-items 2 s c a ea i) (counted-items 8 l c b eb i) n (counted-items 8 x c d ed i) (counted-items 2 y c f ef i))))
+      ∙ (λ i. record { refusal = o .refusal; count = o .count; numerators = numerators i; denominators = denominators i }))
+      ∙ on-layout _ _ (wholeItems 2 s && wholeItems 8 l && wholeItems 2 y && wholeItems 8 x) (rw first second)

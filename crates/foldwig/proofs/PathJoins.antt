@@ -1,26 +1,26 @@
 -- Appends, builds and selections from the front of byte strings to the whole of them: what the inner functions leave, and that the
 -- calls leave what their definitions say.
 use mathlib.Core.Path.{_≡_, ap, sym, subst, _∙_}
-use mathlib.Core.Bool.{true, false, _&&_}
-use mathlib.Core.List.{List, [], _++_}
+use mathlib.Core.Bool.{true, _&&_}
+use mathlib.Core.List.{List, _++_}
 use Prim.Native.Nat.{ℕ, suc, _+_, _*_, _-_, _/_, min}
 use native.Mathlib.Omega.{arith}
 use lib.ListN.{length, drop}
 use Rattle.layout.specs.Items.{itemsTo, itemsOf, bytesOf, wholeItems}
 use Rattle.layout.proofs.ItemLists.{Bytes}
 use Rattle.path.specs.Model.{Model}
-use Rattle.path.specs.Refusal.{maxModels, check}
+use Rattle.path.specs.Refusal.{maxModels}
 use Rattle.path.specs.Append.{PathOutcome, pathOutcome, pathRefused, appendOf}
 use Rattle.path.specs.Inner.{tallyOf}
 use Rattle.path.specs.declared.PathResult.{PathResult}
-use Rattle.path.proofs.Checks.{both, check-fails, check-passes, last-passes, refuses, accepts}
+use Rattle.path.proofs.Checks.{both}
 use Rattle.path.proofs.Cases.{append-refusal, append-refused}
 use Rattle.build.specs.Build.{buildOf}
 use Rattle.build.proofs.Cases.{build-refusal, build-refused}
 use Rattle.select.specs.Select.{selectOf, selectRefused}
 use Rattle.foldwig.specs.Paths.{pathInBytes, appendBytesOf, buildBytesOf, selectBytesOf}
 use Rattle.foldwig.specs.PathsInner.{Holds, pathOverFront}
-use Rattle.foldwig.proofs.Joins.{counted-items, counted-joined, front-back, front-written}
+use Rattle.foldwig.proofs.Joins.{counted-items, counted-joined, front-back, front-written, on-layout}
 use Rattle.foldwig.proofs.PathCuts.{pathLonger, enough-places, append-cut, select-cut, build-cut}
 
 -- What an inner function leaves that made a call on two lists.
@@ -65,10 +65,6 @@ path-joined s l c a b bs bl whole ea eb o =
 
 -- An append on two byte strings.
 module _ (s l : List ℕ) (n : ℕ) (m : Model) where
-  pub append-off-layout : (wholeItems 2 s && wholeItems 8 l) ≡ false → pathRefused s l 11 ≡ appendBytesOf s l n m
-  unfolding appendBytesOf
-  append-off-layout h = refuses _ (pathRefused s l) _ 11 (sym (check-fails (check 11 (wholeItems 2 s && wholeItems 8 l)) [] h)) (λ z. omega arith)
-
   pub append-bytes : Bytes s → Bytes l → (wholeItems 2 s && wholeItems 8 l) ≡ true → (c a b : ℕ) → c ≡ min n (maxModels - 1) + 1 → a ≡ min (length s / 2) c → b ≡ min (length l / 8) c
       → pathOverFront a b s l (appendOf (itemsTo 2 s a) (itemsTo 8 l b) n m) ≡ appendBytesOf s l n m
   unfolding appendBytesOf
@@ -78,44 +74,29 @@ module _ (s l : List ℕ) (n : ℕ) (m : Model) where
       sym (path-joined s l c a b bs bl whole ea eb (appendOf (itemsTo 2 s a) (itemsTo 8 l b) n m))
       ∙ (λ i. pathInBytes (pathLonger (drop c (itemsOf 2 s)) (drop c (itemsOf 8 l)) (appendOf (sizes i) (losses i) n m)))
       ∙ ap pathInBytes (sym (append-cut c (itemsOf 2 s) (itemsOf 8 l) n m (enough-places (suc n) c (omega arith))))
-      ∙ accepts _ (pathRefused s l) _ (last-passes (check 11 (wholeItems 2 s && wholeItems 8 l)) whole)
+      ∙ on-layout _ _ (wholeItems 2 s && wholeItems 8 l) whole
 
 -- A selection from two byte strings.
 module _ (s l : List ℕ) (n p q : ℕ) where
-  pub select-off-layout : (wholeItems 2 s && wholeItems 8 l) ≡ false → selectRefused 11 ≡ selectBytesOf s l n p q
-  unfolding selectBytesOf
-  select-off-layout h = refuses _ selectRefused _ 11 (sym (check-fails (check 11 (wholeItems 2 s && wholeItems 8 l)) [] h)) (λ z. omega arith)
-
   pub select-bytes : (wholeItems 2 s && wholeItems 8 l) ≡ true → (c a b : ℕ) → c ≡ min n maxModels → a ≡ min (length s / 2) c → b ≡ min (length l / 8) c
       → selectOf (itemsTo 2 s a) (itemsTo 8 l b) n p q ≡ selectBytesOf s l n p q
   unfolding selectBytesOf
   select-bytes whole c a b ec ea eb =
       sym (select-cut c (itemsOf 2 s) (itemsOf 8 l) p q n (enough-places n c ec) ∙ (λ i. selectOf (counted-items 2 s c a ea i) (counted-items 8 l c b eb i) n p q))
-      ∙ accepts _ selectRefused _ (last-passes (check 11 (wholeItems 2 s && wholeItems 8 l)) whole)
+      ∙ on-layout _ _ (wholeItems 2 s && wholeItems 8 l) whole
 
 -- A build from two byte strings in two others.
 module _ (x y s l : List ℕ) where
-  pub build-off-layout : (wholeItems 2 x && wholeItems 8 y) ≡ false → pathRefused s l 11 ≡ buildBytesOf x y s l
+  pub build-bytes : (wholeItems 2 x && wholeItems 8 y) ≡ true → (wholeItems 2 s && wholeItems 8 l) ≡ true → Bytes s → Bytes l → (a b c d : ℕ)
+      → a ≡ min (length x / 2) (maxModels + 1) → b ≡ min (length y / 8) (maxModels + 1) → c ≡ min (length s / 2) maxModels → d ≡ min (length l / 8) maxModels
+      → pathOverFront c d s l (buildOf (itemsTo 2 x a) (itemsTo 8 y b) (itemsTo 2 s c) (itemsTo 8 l d)) ≡ buildBytesOf x y s l
   unfolding buildBytesOf
-  build-off-layout h =
-      refuses _ (pathRefused s l) _ 11 (sym (check-fails (check 11 (wholeItems 2 x && wholeItems 8 y)) _ h)) (λ z. omega arith)
-
-  module _ (first : (wholeItems 2 x && wholeItems 8 y) ≡ true) where
-    pub path-off-layout : (wholeItems 2 s && wholeItems 8 l) ≡ false → pathRefused s l 11 ≡ buildBytesOf x y s l
-    unfolding buildBytesOf
-    path-off-layout h =
-        refuses _ (pathRefused s l) _ 11 (sym (check-passes (check 11 (wholeItems 2 x && wholeItems 8 y)) _ first ∙ check-fails (check 11 (wholeItems 2 s && wholeItems 8 l)) [] h)) (λ z. omega arith)
-
-    pub build-bytes : (wholeItems 2 s && wholeItems 8 l) ≡ true → Bytes s → Bytes l → (a b c d : ℕ)
-        → a ≡ min (length x / 2) (maxModels + 1) → b ≡ min (length y / 8) (maxModels + 1) → c ≡ min (length s / 2) maxModels → d ≡ min (length l / 8) maxModels
-        → pathOverFront c d s l (buildOf (itemsTo 2 x a) (itemsTo 8 y b) (itemsTo 2 s c) (itemsTo 8 l d)) ≡ buildBytesOf x y s l
-    unfolding buildBytesOf
-    build-bytes second bs bl a b c d ea eb ec ed =
-        let sizes = sym (counted-items 2 x (maxModels + 1) a ea) in
-        let losses = sym (counted-items 8 y (maxModels + 1) b eb) in
-        let path-sizes = sym (counted-items 2 s maxModels c ec) in
-        let path-losses = sym (counted-items 8 l maxModels d ed) in
-        sym (path-joined s l maxModels c d bs bl second ec ed (buildOf (itemsTo 2 x a) (itemsTo 8 y b) (itemsTo 2 s c) (itemsTo 8 l d)))
-        ∙ (λ i. pathInBytes (pathLonger (drop maxModels (itemsOf 2 s)) (drop maxModels (itemsOf 8 l)) (buildOf (sizes i) (losses i) (path-sizes i) (path-losses i))))
-        ∙ ap pathInBytes (sym (build-cut (itemsOf 2 x) (itemsOf 8 y) (itemsOf 2 s) (itemsOf 8 l) maxModels (omega arith) (maxModels + 1) (omega arith)))
-        ∙ accepts _ (pathRefused s l) _ (check-passes (check 11 (wholeItems 2 x && wholeItems 8 y)) _ first ∙ last-passes (check 11 (wholeItems 2 s && wholeItems 8 l)) second)
+  build-bytes first second bs bl a b c d ea eb ec ed =
+      let sizes = sym (counted-items 2 x (maxModels + 1) a ea) in
+      let losses = sym (counted-items 8 y (maxModels + 1) b eb) in
+      let path-sizes = sym (counted-items 2 s maxModels c ec) in
+      let path-losses = sym (counted-items 8 l maxModels d ed) in
+      sym (path-joined s l maxModels c d bs bl second ec ed (buildOf (itemsTo 2 x a) (itemsTo 8 y b) (itemsTo 2 s c) (itemsTo 8 l d)))
+      ∙ (λ i. pathInBytes (pathLonger (drop maxModels (itemsOf 2 s)) (drop maxModels (itemsOf 8 l)) (buildOf (sizes i) (losses i) (path-sizes i) (path-losses i))))
+      ∙ ap pathInBytes (sym (build-cut (itemsOf 2 x) (itemsOf 8 y) (itemsOf 2 s) (itemsOf 8 l) maxModels (omega arith) (maxModels + 1) (omega arith)))
+      ∙ on-layout _ _ (wholeItems 2 x && wholeItems 8 y && wholeItems 2 s && wholeItems 8 l) (rw first second)

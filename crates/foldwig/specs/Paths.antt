@@ -29,7 +29,7 @@ appendBytesOf sizes losses n m =
 unfoldable pub buildBytesOf : List ℕ → List ℕ → List ℕ → List ℕ → PathOutcome
 buildBytesOf sizes losses pathSizes pathLosses =
     byChecks
-    (check 11 (wholeItems 2 sizes && wholeItems 8 losses) ∷ check 11 (wholeItems 2 pathSizes && wholeItems 8 pathLosses) ∷ [])
+    (check 11 (wholeItems 2 sizes && wholeItems 8 losses && wholeItems 2 pathSizes && wholeItems 8 pathLosses) ∷ [])
     (pathRefused pathSizes pathLosses)
     (pathInBytes (buildOf (shorts sizes) (longs losses) (shorts pathSizes) (longs pathLosses)))
 
@@ -53,8 +53,6 @@ breakpointsInBytes o =
 unfoldable pub breakpointsBytesOf : List ℕ → List ℕ → ℕ → List ℕ → List ℕ → BreakpointsOutcome
 breakpointsBytesOf sizes losses n numerators denominators =
     byChecks
-    (check 11 (wholeItems 2 sizes && wholeItems 8 losses)
-    ∷ check 11 (wholeItems 2 denominators && wholeItems 8 numerators)
-    ∷ [])
+    (check 11 (wholeItems 2 sizes && wholeItems 8 losses && wholeItems 2 denominators && wholeItems 8 numerators) ∷ [])
     (breakpointsRefused numerators denominators)
     (breakpointsInBytes (breakpointsOf (shorts sizes) (longs losses) n (longs numerators) (shorts denominators)))

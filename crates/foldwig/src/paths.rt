@@ -1,6 +1,6 @@
 // The calls in C on a path. Each decodes the items that it may look at to lists of its own, makes the call on numbers, and where
-// that is accepted encodes what may have changed. How many items a call may look at goes by the number of entries, so that a long
-// buffer costs nothing.
+// that is accepted encodes what may have changed. A call on a lent path looks at no more items than the entries ask for, so that
+// long buffers cost nothing.
 
 ghost use mathlib.Core.Path.{_≡_};
 ghost use mathlib.Core.Bool.{_&&_};
@@ -23,7 +23,7 @@ use path::PathResult;
 use select::BreakpointsResult;
 use select::SelectResult;
 
-// The models of a build that are looked at: one more than there may be, so that too many are too many among these.
+// The most models of a build that are read: one more than there may be, so that too many stay too many.
 const MODELS_READ: usize = MAX_MODELS + 1;
 
 // Whether a byte string of numbers of two bytes and one of numbers of eight consist of whole numbers, by their lengths.

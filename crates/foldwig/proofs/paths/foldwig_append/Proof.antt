@@ -4,8 +4,10 @@ use Prim.Native.Nat.{ℕ, _+_}
 use native.Mathlib.Omega.{arith}
 use borrow.Author.Tests.{not-true, not-false}
 use Rattle.path.specs.Model.{model}
-use Rattle.foldwig.proofs.Joins.{repeated-front, counted-front}
-use Rattle.foldwig.proofs.PathJoins.{refused-eleven, append-off-layout, append-bytes}
+use Rattle.path.specs.Append.{pathRefused}
+use Rattle.foldwig.specs.Paths.{appendBytesOf}
+use Rattle.foldwig.proofs.Joins.{off-layout, repeated-front, counted-front}
+use Rattle.foldwig.proofs.PathJoins.{refused-eleven, append-bytes}
 use borrow.Author.Needs.{needs}
 use Rattle.foldwig.proofs.paths.foldwig_append.Statement.{statement}
 use Rattle.foldwig.proofs.paths.foldwig_append.Tie as tie
@@ -17,10 +19,11 @@ refuse-requires : tie.Need-refuse-requires
 refuse-requires c κs = search needs
 
 returns : tie.Need-returns
+unfolding appendBytesOf
 returns c =
     let a = c .before .before .before .before .before .args in
     refused-eleven (c .refuse .result) (a .sizes .now) (a .losses .now) (c .refuse .ensures)
-    ∙ append-off-layout (a .sizes .now) (a .losses .now) (a .entries) (model (a .size) (a .loss)) (sym (c .before .before .whole-items .ensures) ∙ not-true _ (c .before .if1 .taken))
+    ∙ off-layout (pathRefused (a .sizes .now) (a .losses .now)) _ _ (sym (c .before .before .whole-items .ensures) ∙ not-true _ (c .before .if1 .taken))
 
 sub-smaller : tie.Need-sub-smaller
 sub-smaller c = search needs

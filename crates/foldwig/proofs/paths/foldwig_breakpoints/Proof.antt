@@ -1,10 +1,14 @@
 -- `foldwig::paths::foldwig_breakpoints` meets its contract: refused with 11, or the listing on the front of the four strings.
-use mathlib.Core.Path.{sym, _∙_}
+use mathlib.Core.Path.{_≡_, sym, _∙_}
+use mathlib.Core.Bool.{true, false, _&&_}
 use Prim.Native.Nat.{ℕ}
 use native.Mathlib.Omega.{arith}
 use borrow.Author.Tests.{not-true, not-false}
-use Rattle.foldwig.proofs.Joins.{repeated-front, counted-front}
-use Rattle.foldwig.proofs.Listings.{path-off-layout, breakpoints-off-layout, breakpoints-bytes}
+use Rattle.layout.specs.Items.{wholeItems}
+use Rattle.select.specs.Breakpoints.{breakpointsRefused}
+use Rattle.foldwig.specs.Paths.{breakpointsBytesOf}
+use Rattle.foldwig.proofs.Joins.{off-layout, repeated-front, counted-front}
+use Rattle.foldwig.proofs.Listings.{breakpoints-bytes}
 use borrow.Author.Needs.{needs}
 use Rattle.foldwig.proofs.paths.foldwig_breakpoints.Statement.{statement}
 use Rattle.foldwig.proofs.paths.foldwig_breakpoints.Tie as tie
@@ -13,17 +17,22 @@ whole-items-requires : tie.Need-whole-items-requires
 whole-items-requires c κs = search needs
 
 returns : tie.Need-returns
+unfolding breakpointsBytesOf
 returns c =
     let a = c .before .before .before .before .before .before .args in
-    path-off-layout (a .sizes .now) (a .losses .now) (a .entries) (a .numerators .now) (a .denominators .now) (sym (c .before .whole-items .ensures) ∙ not-true _ (c .if1 .taken))
+    let first : (wholeItems 2 (a .sizes .now) && wholeItems 8 (a .losses .now)) ≡ false = sym (c .before .whole-items .ensures) ∙ not-true _ (c .if1 .taken) in
+    off-layout (breakpointsRefused (a .numerators .now) (a .denominators .now)) _ _ (rw first)
 
 whole-items-requires-2 : tie.Need-whole-items-requires-2
 whole-items-requires-2 c κs = search needs
 
 returns-2 : tie.Need-returns-2
+unfolding breakpointsBytesOf
 returns-2 c =
     let a = c .before .before .before .before .before .before .before .before .args in
-    breakpoints-off-layout (a .sizes .now) (a .losses .now) (a .entries) (a .numerators .now) (a .denominators .now) (sym (c .before .before .before .whole-items .ensures) ∙ not-false _ (c .before .before .if1 .left)) (sym (c .before .whole-items2 .ensures) ∙ not-true _ (c .if2 .taken))
+    let first : (wholeItems 2 (a .sizes .now) && wholeItems 8 (a .losses .now)) ≡ true = sym (c .before .before .before .whole-items .ensures) ∙ not-false _ (c .before .before .if1 .left) in
+    let second : (wholeItems 2 (a .denominators .now) && wholeItems 8 (a .numerators .now)) ≡ false = sym (c .before .whole-items2 .ensures) ∙ not-true _ (c .if2 .taken) in
+    off-layout (breakpointsRefused (a .numerators .now) (a .denominators .now)) _ _ (rw first second)
 
 smaller-requires : tie.Need-smaller-requires
 smaller-requires c κs = search needs

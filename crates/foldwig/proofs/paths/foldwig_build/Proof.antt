@@ -1,10 +1,14 @@
 -- `foldwig::paths::foldwig_build` meets its contract: refused with 11, or the build on the front of the four strings.
-use mathlib.Core.Path.{sym, _∙_}
+use mathlib.Core.Path.{_≡_, sym, _∙_}
+use mathlib.Core.Bool.{true, false, _&&_}
 use Prim.Native.Nat.{ℕ}
 use native.Mathlib.Omega.{arith}
 use borrow.Author.Tests.{not-true, not-false}
-use Rattle.foldwig.proofs.Joins.{repeated-front, counted-front}
-use Rattle.foldwig.proofs.PathJoins.{refused-eleven, build-off-layout, path-off-layout, build-bytes}
+use Rattle.layout.specs.Items.{wholeItems}
+use Rattle.path.specs.Append.{pathRefused}
+use Rattle.foldwig.specs.Paths.{buildBytesOf}
+use Rattle.foldwig.proofs.Joins.{off-layout, repeated-front, counted-front}
+use Rattle.foldwig.proofs.PathJoins.{refused-eleven, build-bytes}
 use borrow.Author.Needs.{needs}
 use Rattle.foldwig.proofs.paths.foldwig_build.Statement.{statement}
 use Rattle.foldwig.proofs.paths.foldwig_build.Tie as tie
@@ -16,10 +20,12 @@ refuse-requires : tie.Need-refuse-requires
 refuse-requires c κs = search needs
 
 returns : tie.Need-returns
+unfolding buildBytesOf
 returns c =
     let a = c .before .before .before .before .before .before .before .args in
+    let first : (wholeItems 2 (a .sizes .now) && wholeItems 8 (a .losses .now)) ≡ false = sym (c .before .before .whole-items .ensures) ∙ not-true _ (c .before .if1 .taken) in
     refused-eleven (c .refuse .result) (a .path-sizes .now) (a .path-losses .now) (c .refuse .ensures)
-    ∙ build-off-layout (a .sizes .now) (a .losses .now) (a .path-sizes .now) (a .path-losses .now) (sym (c .before .before .whole-items .ensures) ∙ not-true _ (c .before .if1 .taken))
+    ∙ off-layout (pathRefused (a .path-sizes .now) (a .path-losses .now)) _ _ (rw first)
 
 whole-items-requires-2 : tie.Need-whole-items-requires-2
 whole-items-requires-2 c κs = search needs
@@ -28,10 +34,13 @@ refuse-requires-2 : tie.Need-refuse-requires-2
 refuse-requires-2 c κs = search needs
 
 returns-2 : tie.Need-returns-2
+unfolding buildBytesOf
 returns-2 c =
     let a = c .before .before .before .before .before .before .before .before .before .args in
+    let first : (wholeItems 2 (a .sizes .now) && wholeItems 8 (a .losses .now)) ≡ true = sym (c .before .before .before .before .whole-items .ensures) ∙ not-false _ (c .before .before .before .if1 .left) in
+    let second : (wholeItems 2 (a .path-sizes .now) && wholeItems 8 (a .path-losses .now)) ≡ false = sym (c .before .before .whole-items2 .ensures) ∙ not-true _ (c .before .if2 .taken) in
     refused-eleven (c .refuse2 .result) (a .path-sizes .now) (a .path-losses .now) (c .refuse2 .ensures)
-    ∙ path-off-layout (a .sizes .now) (a .losses .now) (a .path-sizes .now) (a .path-losses .now) (sym (c .before .before .before .before .whole-items .ensures) ∙ not-false _ (c .before .before .before .if1 .left)) (sym (c .before .before .whole-items2 .ensures) ∙ not-true _ (c .before .if2 .taken))
+    ∙ off-layout (pathRefused (a .path-sizes .now) (a .path-losses .now)) _ _ (rw first second)
 
 smaller-requires : tie.Need-smaller-requires
 smaller-requires c κs = search needs

@@ -3,8 +3,10 @@ use mathlib.Core.Path.{sym, _∙_}
 use Prim.Native.Nat.{ℕ}
 use native.Mathlib.Omega.{arith}
 use borrow.Author.Tests.{not-true, not-false}
-use Rattle.foldwig.proofs.Joins.{repeated-front, counted-front}
-use Rattle.foldwig.proofs.PathJoins.{select-off-layout, select-bytes}
+use Rattle.select.specs.Select.{selectRefused}
+use Rattle.foldwig.specs.Paths.{selectBytesOf}
+use Rattle.foldwig.proofs.Joins.{off-layout, repeated-front, counted-front}
+use Rattle.foldwig.proofs.PathJoins.{select-bytes}
 use borrow.Author.Needs.{needs}
 use Rattle.foldwig.proofs.paths.foldwig_select.Statement.{statement}
 use Rattle.foldwig.proofs.paths.foldwig_select.Tie as tie
@@ -13,9 +15,8 @@ whole-items-requires : tie.Need-whole-items-requires
 whole-items-requires c κs = search needs
 
 returns : tie.Need-returns
-returns c =
-    let a = c .before .before .before .before .args in
-    select-off-layout (a .sizes .now) (a .losses .now) (a .entries) (a .p) (a .q) (sym (c .before .whole-items .ensures) ∙ not-true _ (c .if1 .taken))
+unfolding selectBytesOf
+returns c = off-layout selectRefused _ _ (sym (c .before .whole-items .ensures) ∙ not-true _ (c .if1 .taken))
 
 smaller-requires : tie.Need-smaller-requires
 smaller-requires c κs = search needs
