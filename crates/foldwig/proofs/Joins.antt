@@ -10,8 +10,8 @@ use native.Mathlib.Omega.{arith}
 use borrow.Author.Tests.{eqb-true}
 use lib.ListN.{length, take, drop, replicate, take-append-drop, drop-of-length-le, length-replicate}
 use lib.Seq.{take-all, length-take-le}
-use Rattle.layout.specs.Items.{itemsTo, itemsOf, bytesOf, wholeItems}
-use Rattle.layout.proofs.ItemLists.{Bytes, length-items, take-items, bytes-append, bytes-items, bytes-rest}
+use Rattle.layout.specs.Items.{Bytes, itemsTo, itemsOf, bytesOf, wholeItems}
+use Rattle.layout.proofs.ItemLists.{length-items, take-items, bytes-append, bytes-items, bytes-rest}
 use Rattle.path.specs.Refusal.{check, byChecks}
 use Rattle.path.proofs.Checks.{check-fails, last-passes, refuses, accepts}
 use Rattle.foldwig.proofs.Cuts.{le-or-lt}

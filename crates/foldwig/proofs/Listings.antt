@@ -6,8 +6,7 @@ use mathlib.Core.List.{List, [], _∷_, _++_}
 use Prim.Native.Nat.{ℕ, _*_, _-_, _/_, _≤_, min}
 use native.Mathlib.Omega.{arith}
 use lib.ListN.{length, take, drop, take-append-drop}
-use Rattle.layout.specs.Items.{itemsTo, itemsOf, bytesOf, wholeItems}
-use Rattle.layout.proofs.ItemLists.{Bytes}
+use Rattle.layout.specs.Items.{Bytes, itemsTo, itemsOf, bytesOf, wholeItems}
 use Rattle.path.specs.Model.{pathOf}
 use Rattle.path.specs.Update.{Fraction, pathBreakpoints}
 use Rattle.path.specs.Refusal.{check, refusalOf, maxModels, roomFor, validPath}

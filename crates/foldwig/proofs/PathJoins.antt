@@ -6,8 +6,7 @@ use mathlib.Core.List.{List, _++_}
 use Prim.Native.Nat.{ℕ, suc, _+_, _*_, _-_, _/_, min}
 use native.Mathlib.Omega.{arith}
 use lib.ListN.{length, drop}
-use Rattle.layout.specs.Items.{itemsTo, itemsOf, bytesOf, wholeItems}
-use Rattle.layout.proofs.ItemLists.{Bytes}
+use Rattle.layout.specs.Items.{Bytes, itemsTo, itemsOf, bytesOf, wholeItems}
 use Rattle.path.specs.Model.{Model}
 use Rattle.path.specs.Refusal.{maxModels}
 use Rattle.path.specs.Append.{PathOutcome, pathOutcome, pathRefused, appendOf}
@@ -17,7 +16,7 @@ use Rattle.path.proofs.Checks.{both}
 use Rattle.path.proofs.Cases.{append-refusal, append-refused}
 use Rattle.build.specs.Build.{buildOf}
 use Rattle.build.proofs.Cases.{build-refusal, build-refused}
-use Rattle.select.specs.Select.{selectOf, selectRefused}
+use Rattle.select.specs.Select.{selectOf}
 use Rattle.foldwig.specs.Paths.{pathInBytes, appendBytesOf, buildBytesOf, selectBytesOf}
 use Rattle.foldwig.specs.PathsInner.{Holds, pathOverFront}
 use Rattle.foldwig.proofs.Joins.{counted-items, counted-joined, front-back, front-written, on-layout}

@@ -7,8 +7,7 @@ use Prim.Native.Nat.{ℕ, zero, suc, _*_, _/_, _%_, min}
 use native.Mathlib.Omega.{arith}
 use lib.ListN.{length, take, drop, replicate}
 use borrow.Author.Tests.{eqb-true}
-use Rattle.layout.specs.Items.{itemsTo, itemsOf, bytesOf, wholeItems, signedOf}
-use Rattle.layout.proofs.ItemLists.{Bytes}
+use Rattle.layout.specs.Items.{Bytes, itemsTo, itemsOf, bytesOf, wholeItems, signedOf}
 use Rattle.path.specs.Refusal.{check}
 use Rattle.path.proofs.Checks.{both, check-fails, last-passes, refuses, accepts}
 use Rattle.least.specs.Segmentation.{maxSegments}

@@ -8,8 +8,8 @@ use native.Mathlib.Omega.{arith}
 use lib.IntN.{ℤ}
 use lib.ListN.{length, drop}
 use borrow.Author.Tests.{eqb-true}
-use Rattle.layout.specs.Items.{itemsTo, itemsOf, bytesOf, wholeItems, signedOf, unsignedOf}
-use Rattle.layout.proofs.ItemLists.{Bytes, Below, items-low}
+use Rattle.layout.specs.Items.{Bytes, itemsTo, itemsOf, bytesOf, wholeItems, signedOf, unsignedOf}
+use Rattle.layout.proofs.ItemLists.{Below, items-low}
 use Rattle.layout.proofs.Signs.{unsigned-signed}
 use Rattle.path.specs.Refusal.{check}
 use Rattle.path.proofs.Checks.{both, check-fails, last-passes, refuses, accepts}

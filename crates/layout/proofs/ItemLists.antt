@@ -1,21 +1,16 @@
 -- The laws of lists of items: reading and writing one item more, and that bytes are got back from their items and items from
 -- their bytes. All hold for every width.
 use mathlib.Core.Path.{_≡_, refl, ap, sym, _∙_}
-use mathlib.Core.Logic.{_⊎_, inl, inr}
 use mathlib.Core.List.{List, [], _∷_, _++_, append-assoc, append-nil, map}
 use Prim.Native.Nat.{ℕ, zero, suc, _+_, _*_, _-_, _/_, _%_, _^_, _≤_, _<_}
-use native.Mathlib.Nat.{pow-suc, mul-suc, add-suc, add-zero, mul-zero, mul-le-mul-left, mul-add}
+use native.Mathlib.Nat.{pow-suc, mul-suc, add-suc, add-zero, mul-zero, mul-le-mul-left}
 use native.Mathlib.Omega.{arith}
-use lib.ListN.{length, getD, set, take, drop, length-set, length-append, length-take, length-drop, take-append-drop, drop-of-length-le, length-map, List·getD-map}
-use lib.Seq.{set-split, drop-cons, take-suc, take-at, drop-at, drop-drop, take-add, take-append-le, take-suc-set, drop-set-lt, take-all, append-snoc, getD-drop, getD-at, take-length, getD-append-add, length-take-le, drop-append-add, set-at, ext-getD}
+use lib.ListN.{length, getD, set, take, drop, length-set, length-append, length-drop, take-append-drop, drop-of-length-le, length-map, List·getD-map}
+use lib.Seq.{drop-cons, take-suc, take-at, drop-at, drop-drop, take-add, take-append-le, take-suc-set, drop-set-lt, take-all, append-snoc, getD-at, take-length, getD-append-add, length-take-le, drop-append-add, set-at, ext-getD}
 use Rattle.layout.specs.Item.{item, setItem}
-use Rattle.layout.specs.Items.{itemsTo, itemBytes, bytesOf, signedOf, unsignedOf}
+use Rattle.layout.specs.Items.{Bytes, itemsTo, itemBytes, bytesOf, signedOf, unsignedOf}
 use lib.IntN.{ℤ, pos}
 use Rattle.layout.proofs.Laws.{item-low, length-setItem}
-
--- every element is a byte
-abbrev pub Bytes : List ℕ → Type 0
-Bytes bytes = (i : ℕ) → getD bytes i 0 < 256
 
 -- The first n items are n items.
 pub length-items : (k : ℕ) (bytes : List ℕ) (n : ℕ) → length (itemsTo k bytes n) ≡ n

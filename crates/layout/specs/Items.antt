@@ -1,12 +1,16 @@
 -- Byte strings as lists of items of k bytes each, low byte first: which items a string has, and which bytes a list of items takes.
 -- A sample or a level is an item of two bytes in two's complement.
 use mathlib.Core.Bool.{Bool, cond}
-use mathlib.Core.List.{List, [], _∷_, _++_, map}
-use Prim.Native.Nat.{ℕ, zero, suc, _*_, _-_, _/_, _%_}
+use mathlib.Core.List.{List, [], _∷_, _++_}
+use Prim.Native.Nat.{ℕ, zero, suc, _*_, _-_, _/_, _%_, _<_}
 use lib.Dec.{eqb, ltb}
 use lib.IntN.{ℤ, pos, negsuc}
-use lib.ListN.{length}
+use lib.ListN.{length, getD}
 use Rattle.layout.specs.Item.{item}
+
+-- Every element of a list is a byte, as in every string of bytes.
+abbrev pub Bytes : List ℕ → Type 0
+Bytes bytes = (i : ℕ) → getD bytes i 0 < 256
 
 -- The first n items of a byte string.
 unfoldable pub itemsTo : ℕ → List ℕ → ℕ → List ℕ
