@@ -3,25 +3,24 @@
 use mathlib.Core.Path.{_≡_, refl, ap, sym, subst, _∙_}
 use mathlib.Core.Bool.{Bool, true, false, cond, _&&_}
 use mathlib.Core.Logic.{⊎-elim}
-use mathlib.Core.List.{List, [], _∷_, _++_}
-use Prim.Native.Nat.{ℕ, zero, suc, _+_, _-_, _/_, _%_, _^_, _<_}
+use mathlib.Core.List.{List, [], _∷_}
+use Prim.Native.Nat.{ℕ, zero, suc, _+_, _/_, _%_, _^_, _<_}
 use native.Mathlib.Nat.{eq-zero-or-pos}
 use native.Mathlib.Omega.{arith}
 use lib.Dec.{eqb}
-use lib.ListN.{length, drop, replicate}
+use lib.ListN.{length}
 use borrow.Author.Tests.{eq-eqb, eqb-true}
-use Rattle.layout.specs.Items.{itemsTo, bytesOf, wholeItems}
-use Rattle.layout.proofs.ItemLists.{length-bytes, bytes-back, items-back, items-low}
-use Rattle.path.specs.Model.{Model, modelAt, pathOf, valuesOf}
-use Rattle.path.specs.Update.{kept, extended, testsMade}
+use Rattle.layout.specs.Items.{bytesOf, wholeItems}
+use Rattle.layout.proofs.ItemLists.{length-bytes, bytes-back}
+use Rattle.path.specs.Model.{Model, modelAt, pathOf}
+use Rattle.path.specs.Update.{kept, extended}
 use Rattle.path.specs.Refusal.{refusalOf, byChecks}
-use Rattle.path.specs.Buffer.{overwrittenTo}
-use Rattle.path.specs.Append.{PathOutcome, pathLeft, appendChecks, appendOf}
+use Rattle.path.specs.Append.{PathOutcome, appendChecks, appendOf}
 use Rattle.path.proofs.Checks.{both}
 use Rattle.path.proofs.Order.{within}
 use Rattle.path.proofs.Updates.{Keeps, stays, drops, keeps}
 use Rattle.path.proofs.Cases.{append-refused, append-accepted, appendable}
-use Rattle.build.specs.Build.{built, builtTests, countOf, buildChecks, buildOf}
+use Rattle.build.specs.Build.{built, countOf, buildChecks, buildOf}
 use Rattle.build.proofs.Cases.{build-refused, build-accepted}
 use Rattle.hull.specs.History.{State, Start, emptyState, afterCall, modelsOf, begin, appends, history, pathAt}
 use Rattle.hull.specs.Claims.{PathOfWinners, TestsCounted, Falling, AfterEveryHistory}
@@ -29,13 +28,10 @@ use Rattle.hull.proofs.Histories.{history-claim, falling-claim}
 use Rattle.foldwig.specs.Numbers.{shorts, longs}
 use Rattle.foldwig.specs.Paths.{pathInBytes, appendBytesOf, buildBytesOf}
 use Rattle.demands.specs.ByteHistories.{Bytes, BytesStart, byteBegin, byteAppends, decoded, AfterEveryByteHistory, ByteHistoryClaim, ByteFallingClaim}
-use Rattle.demands.proofs.Small.{Small, small-below, below-small, small-append, small-drop, small-zeros, small-at}
+use Rattle.demands.proofs.Small.{small-at}
+use Rattle.demands.proofs.Fitting.{shorts-back, longs-back, FitsItems, items-fit, Fits, sizeOf, lossOf, fits-filled}
 
--- A field of every entry is below a limit.
-abbrev Fits : (Model → ℕ) → ℕ → List Model → Type 0
-Fits field b [] = Unit {0}
-Fits field b (e ∷ r) = (field e < b) × Fits field b r
-
+-- The entries of paths that calls make have a field below a limit.
 module _ (field : Model → ℕ) (b : ℕ) where
   fits-keeps : {m : Model} {path rest : List Model} {t : ℕ} → Keeps m path rest t → Fits field b path → Fits field b rest
   fits-keeps (stays h) f = f
@@ -45,11 +41,6 @@ module _ (field : Model → ℕ) (b : ℕ) where
   unfolding kept
   fits-kept [] m f = tt
   fits-kept (e ∷ r) m f = fits-keeps (keeps e r m) f
-
-  fits-values : (path : List Model) → Fits field b path → Small b (valuesOf field path)
-  unfolding valuesOf
-  fits-values [] f = tt
-  fits-values (e ∷ r) f = small-append b (valuesOf field r) (field e ∷ []) (fits-values r (f .1)) (f .0, tt)
 
   -- Where the field of every place is small, so is that of every path from these places.
   module _ (s l : List ℕ) (at : (i : ℕ) → field (modelAt s l i) < b) where
@@ -63,25 +54,7 @@ module _ (field : Model → ℕ) (b : ℕ) where
     fits-built zero = tt
     fits-built (suc n) = (at n, fits-kept (built s l n) (modelAt s l n) (fits-built n))
 
-  -- A buffer that such a path overwrites holds small numbers.
-  fits-overwritten : (path : List Model) (n : ℕ) (s : List ℕ) → 0 < b → Fits field b path → Small b s → Small b (overwrittenTo (valuesOf field path) n s)
-  fits-overwritten path n s h f fs =
-      let values = valuesOf field path in
-      let zeros : List ℕ = replicate (n - length values) 0 in
-      small-append b (values ++ zeros) (drop (length (values ++ zeros)) s)
-      (small-append b values zeros (fits-values path f) (small-zeros b (n - length values) h)) (small-drop b (length (values ++ zeros)) s fs)
-
--- Sizes fit items of two bytes, and losses items of eight.
-abbrev FitsItems : List ℕ → List ℕ → Type 0
-FitsItems s l = Small (256 ^ 2) s × Small (256 ^ 8) l
-
-abbrev sizeOf : Model → ℕ
-sizeOf m = m .size
-
-abbrev lossOf : Model → ℕ
-lossOf m = m .loss
-
--- The lists that an outcome leaves do.
+-- The lists that an outcome leaves fit.
 abbrev FitsIn : PathOutcome → Type 0
 FitsIn o = FitsItems (o .sizes) (o .losses)
 
@@ -92,17 +65,13 @@ module _ (s l : List ℕ) (f : FitsItems s l) where
   loss-at : (i : ℕ) → modelAt s l i .loss < 256 ^ 8
   loss-at i = small-at (256 ^ 8) l i (omega arith) (f .1)
 
-  fits-left : (path : List Model) (tests n : ℕ) → Fits sizeOf (256 ^ 2) path → Fits lossOf (256 ^ 8) path → FitsIn (pathLeft path tests n s l)
-  fits-left path tests n a b =
-      (fits-overwritten sizeOf (256 ^ 2) path n s (omega arith) a (f .0), fits-overwritten lossOf (256 ^ 8) path n l (omega arith) b (f .1))
-
   fits-append : (n : ℕ) (m : Model) → FitsIn (appendOf s l n m)
   fits-append n m =
       ⊎-elim
       (λ (e : refusalOf (appendChecks s l n m) ≡ 0).
       let w = within m (appendable s l n m e .input .passes .range) in
       subst FitsIn (sym (append-accepted s l n m e))
-      (fits-left (extended (pathOf s l n) m) (testsMade (pathOf s l n) m) n
+      (fits-filled s l f (extended (pathOf s l n) m) n
       (omega (arith, w .small), fits-kept sizeOf (256 ^ 2) (pathOf s l n) m (fits-path sizeOf (256 ^ 2) s l size-at n))
       (omega (arith, w .low), fits-kept lossOf (256 ^ 8) (pathOf s l n) m (fits-path lossOf (256 ^ 8) s l loss-at n))))
       (λ (h : 0 < refusalOf (appendChecks s l n m)). subst FitsIn (sym (append-refused s l n m (λ z. omega arith))) f)
@@ -113,20 +82,9 @@ module _ (s l : List ℕ) (f : FitsItems s l) where
       let c = refusalOf (buildChecks a b (length s) (length l)) in
       let n = countOf a b in
       ⊎-elim
-      (λ (e : c ≡ 0). subst FitsIn (build-accepted a b s l e) (fits-left (built a b n) (builtTests a b n) n (fits-built sizeOf (256 ^ 2) a b (λ i. small-at (256 ^ 2) a i (omega arith) (g .0)) n) (fits-built lossOf (256 ^ 8) a b (λ i. small-at (256 ^ 8) b i (omega arith) (g .1)) n)))
+      (λ (e : c ≡ 0). subst FitsIn (build-accepted a b s l e) (fits-filled s l f (built a b n) n (fits-built sizeOf (256 ^ 2) a b (λ i. small-at (256 ^ 2) a i (omega arith) (g .0)) n) (fits-built lossOf (256 ^ 8) a b (λ i. small-at (256 ^ 8) b i (omega arith) (g .1)) n)))
       (λ (h : 0 < c). subst FitsIn (build-refused a b s l c refl (λ z. omega arith)) f)
       (eq-zero-or-pos c)
-
--- The items of encoded numbers are the numbers.
-shorts-back : (xs : List ℕ) → Small (256 ^ 2) xs → shorts (bytesOf 2 xs) ≡ xs
-shorts-back xs f =
-    let e : length (bytesOf 2 xs) / 2 ≡ length xs = omega (arith, length-bytes 2 xs) in
-    ap (itemsTo 2 (bytesOf 2 xs)) e ∙ items-back 2 xs (small-below (256 ^ 2) xs f)
-
-longs-back : (xs : List ℕ) → Small (256 ^ 8) xs → longs (bytesOf 8 xs) ≡ xs
-longs-back xs f =
-    let e : length (bytesOf 8 xs) / 8 ≡ length xs = omega (arith, length-bytes 8 xs) in
-    ap (itemsTo 8 (bytesOf 8 xs)) e ∙ items-back 8 xs (small-below (256 ^ 8) xs f)
 
 -- The byte strings that hold a state's numbers.
 abbrev encoded : State → State
@@ -167,11 +125,7 @@ appends-encoded (m ∷ ms) x f =
     let r = appends-encoded ms (afterCall (m ∷ x .models) x o) (after-fits (m ∷ x .models) x o (fits-append (x .sizes) (x .losses) f (x .entries) m)) in
     (ap (λ (y : PathOutcome). byteAppends (afterCall (m ∷ x .models) (encoded x) y) ms) (append-encoded (x .sizes) (x .losses) (x .entries) m f) ∙ ap (λ (y : State). byteAppends y ms) (after-encoded (m ∷ x .models) x o) ∙ r .0, r .1)
 
--- The numbers of a string of whole items fit, and encode to it again.
-items-fit : (a b : List ℕ) → Bytes a → Bytes b → FitsItems (shorts a) (longs b)
-items-fit a b p q =
-    (below-small (256 ^ 2) (shorts a) (items-low 2 a (length a / 2) p), below-small (256 ^ 8) (longs b) (items-low 8 b (length b / 8) q))
-
+-- The numbers of strings of whole items encode to them again.
 module _ (s l : List ℕ) (bs : Bytes s) (bl : Bytes l) (h : (wholeItems 2 s && wholeItems 8 l) ≡ true) where
   abbrev numbers : State
   numbers = emptyState (shorts s) (longs l)
@@ -212,11 +166,10 @@ module _ (s l : List ℕ) (bs : Bytes s) (bl : Bytes l) (h : (wholeItems 2 s && 
   decoded-history start z ms =
       let g = begun start z in
       let y = history (g .start-is) ms (shorts s) (longs l) in
-      let r = appends-encoded ms (begin (g .start-is) (shorts s) (longs l)) (g .fit) in
-      (
+      let r = appends-encoded ms (begin (g .start-is) (shorts s) (longs l)) (g .fit) in (
         g .start-is,
         ap (λ (x : State). decoded (byteAppends x ms)) (g .is) ∙ ap decoded (r .0)
-        ∙ (λ i. record { sizes = shorts-back (y .sizes) (r .1 .0) i; losses = longs-back (y .losses) (r .1 .1) i; entries = y .entries; tests = y .tests; models = y .models }),
+            ∙ (λ i. record { sizes = shorts-back (y .sizes) (r .1 .0) i; losses = longs-back (y .losses) (r .1 .1) i; entries = y .entries; tests = y .tests; models = y .models }),
       )
 
 -- On strings that do not consist of whole items every call is refused.
