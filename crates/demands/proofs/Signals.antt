@@ -49,7 +49,7 @@ module _ (xs : List ℤ) (limit : ℕ) (b : PathBuffers) (bits : Samples16 xs) (
   low : (m : ℕ) → m < count → least xs m (length xs) ≤ maxLoss
   low m g = omega (arith, least-low xs bits m (length xs) (omega arith) (omega arith), ok .short)
 
-  order : ordered path ≡ true
+  pub order : ordered path ≡ true
   order = path-ordered xs count (omega (arith, ok .few)) low
 
   one : 0 < count
@@ -115,7 +115,7 @@ module _ (xs : List ℤ) (limit p q : ℕ) (b : SplitBuffers) (bits : Samples16 
   one-more : suc (given - 1) ≡ given
   one-more = omega (arith, here .size)
 
-  enough : suc (given - 1) ≤ length xs
+  pub enough : suc (given - 1) ≤ length xs
   enough = omega (arith, here .size, here .few)
 
   loss-given : lossOf (segmentation xs given) ≡ least xs (here .last) (length xs)
@@ -174,10 +174,10 @@ module _ (xs : List ℤ) (limit p q : ℕ) (b : SplitBuffers) (bits : Samples16 
 
 -- What an accepted split is, and what it tells.
 module _ (xs : List ℤ) (limit p q : ℕ) (b : SplitBuffers) (h : splitOf xs limit p q b .refusal ≡ 0) where
-  split-is : splitOf xs limit p q b ≡ splitAt xs (signalPath xs (sizeCount xs limit)) (sizeCount xs limit) p q b
+  pub split-is : splitOf xs limit p q b ≡ splitAt xs (signalPath xs (sizeCount xs limit)) (sizeCount xs limit) p q b
   split-is = sym (split-accepted xs limit p q b (sym (split-refusal xs limit p q b) ∙ h))
 
-  asked : Splittable xs limit p q b
+  pub asked : Splittable xs limit p q b
   asked = splittable xs limit p q b (sym (split-refusal xs limit p q b) ∙ h)
 
 pub split-claim : SplitClaim
