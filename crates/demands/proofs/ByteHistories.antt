@@ -128,6 +128,13 @@ longs-back xs f =
     let e : length (bytesOf 8 xs) / 8 ≡ length xs = omega (arith, length-bytes 8 xs) in
     ap (itemsTo 8 (bytesOf 8 xs)) e ∙ items-back 8 xs (small-below (256 ^ 8) xs f)
 
+-- A string of whole items is got back from its numbers.
+pub shorts-again : (bytes : List ℕ) → Bytes bytes → wholeItems 2 bytes ≡ true → bytesOf 2 (shorts bytes) ≡ bytes
+shorts-again bytes b h = bytes-back 2 bytes (length bytes / 2) b (omega (arith, eqb-true (length bytes % 2) 0 h))
+
+pub longs-again : (bytes : List ℕ) → Bytes bytes → wholeItems 8 bytes ≡ true → bytesOf 8 (longs bytes) ≡ bytes
+longs-again bytes b h = bytes-back 8 bytes (length bytes / 8) b (omega (arith, eqb-true (length bytes % 8) 0 h))
+
 -- The byte strings that hold a state's numbers.
 abbrev encoded : State → State
 encoded x = record { sizes = bytesOf 2 (x .sizes); losses = bytesOf 8 (x .losses); entries = x .entries; tests = x .tests; models = x .models }
@@ -180,10 +187,7 @@ module _ (s l : List ℕ) (bs : Bytes s) (bl : Bytes l) (h : (wholeItems 2 s && 
   whole = both (wholeItems 2 s) (wholeItems 8 l) h
 
   empty-encoded : emptyState s l ≡ encoded numbers
-  empty-encoded =
-      let e = eqb-true (length s % 2) 0 (whole .0) in
-      let g = eqb-true (length l % 8) 0 (whole .1) in
-      λ i. emptyState (sym (bytes-back 2 s (length s / 2) bs (omega (arith, e))) i) (sym (bytes-back 8 l (length l / 8) bl (omega (arith, g))) i)
+  empty-encoded = λ i. emptyState (sym (shorts-again s bs (whole .0)) i) (sym (longs-again l bl (whole .1)) i)
 
   -- Whatever a history on whole items begins with, it begins as one on numbers.
   record Begun (start : Start) : Type 0 where
@@ -212,11 +216,10 @@ module _ (s l : List ℕ) (bs : Bytes s) (bl : Bytes l) (h : (wholeItems 2 s && 
   decoded-history start z ms =
       let g = begun start z in
       let y = history (g .start-is) ms (shorts s) (longs l) in
-      let r = appends-encoded ms (begin (g .start-is) (shorts s) (longs l)) (g .fit) in
-      (
+      let r = appends-encoded ms (begin (g .start-is) (shorts s) (longs l)) (g .fit) in (
         g .start-is,
         ap (λ (x : State). decoded (byteAppends x ms)) (g .is) ∙ ap decoded (r .0)
-        ∙ (λ i. record { sizes = shorts-back (y .sizes) (r .1 .0) i; losses = longs-back (y .losses) (r .1 .1) i; entries = y .entries; tests = y .tests; models = y .models }),
+            ∙ (λ i. record { sizes = shorts-back (y .sizes) (r .1 .0) i; losses = longs-back (y .losses) (r .1 .1) i; entries = y .entries; tests = y .tests; models = y .models }),
       )
 
 -- On strings that do not consist of whole items every call is refused.
