@@ -29,7 +29,7 @@ use Rattle.foldwig.specs.Numbers.{shorts, longs}
 use Rattle.foldwig.specs.Paths.{pathInBytes, appendBytesOf, buildBytesOf}
 use Rattle.demands.specs.ByteHistories.{BytesStart, byteBegin, byteAppends, decoded, AfterEveryByteHistory, ByteHistoryClaim, ByteFallingClaim}
 use Rattle.demands.proofs.Small.{small-at}
-use Rattle.demands.proofs.Fitting.{shorts-back, longs-back, FitsItems, items-fit, Fits, sizeOf, lossOf, fits-filled}
+use Rattle.demands.proofs.Fitting.{shorts-back, longs-back, shorts-again, longs-again, FitsItems, items-fit, Fits, sizeOf, lossOf, fits-filled}
 
 -- The entries of paths that calls make have a field below a limit.
 module _ (field : Model → ℕ) (b : ℕ) where
@@ -134,10 +134,7 @@ module _ (s l : List ℕ) (bs : Bytes s) (bl : Bytes l) (h : (wholeItems 2 s && 
   whole = both (wholeItems 2 s) (wholeItems 8 l) h
 
   empty-encoded : emptyState s l ≡ encoded numbers
-  empty-encoded =
-      let e = eqb-true (length s % 2) 0 (whole .0) in
-      let g = eqb-true (length l % 8) 0 (whole .1) in
-      λ i. emptyState (sym (bytes-back 2 s (length s / 2) bs (omega (arith, e))) i) (sym (bytes-back 8 l (length l / 8) bl (omega (arith, g))) i)
+  empty-encoded = λ i. emptyState (sym (shorts-again s bs (whole .0)) i) (sym (longs-again l bl (whole .1)) i)
 
   -- Whatever a history on whole items begins with, it begins as one on numbers.
   record Begun (start : Start) : Type 0 where
