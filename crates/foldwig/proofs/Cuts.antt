@@ -41,7 +41,7 @@ overwritten-cut front c s h = sym (append-assoc front (drop (length front) (take
 pub overwritten-to-cut : (front : List ℕ) (n c : ℕ) (s : List ℕ) → length front ≤ c → n ≤ c → overwrittenTo front n s ≡ overwrittenTo front n (take c s) ++ drop c s
 overwritten-to-cut front n c s h m = overwritten-cut (front ++ replicate (n - length front) 0) c s (omega (arith, length-zeros front n))
 
--- The front has room for as few places as the list has.
+-- Where at most c places are asked for, the front has room for them if and only if the list has.
 pub leb-take : {A : Type 0} (k c : ℕ) (s : List A) → k ≤ c → leb k (length (take c s)) ≡ leb k (length s)
 leb-take k c s h =
     agree (leb k (length (take c s))) (leb k (length s))

@@ -42,7 +42,7 @@ left-cut path tests n c s l h m =
     let losses = overwritten-to-cut (lossesOf path) n c l (omega (arith, length-values (λ (e : Model). e .loss) path)) m in
     λ i. record { refusal = 0; entries = length path; tests = tests; sizes = sizes i; losses = losses i }
 
--- As many places as there are entries, but for those of too many, are enough.
+-- As many places as there are entries are enough, and so are as many as there may be models.
 pub enough-places : (n c : ℕ) → c ≡ min n maxModels → (n ≤ c) ⊎ (maxModels ≤ c)
 enough-places n c e =
     ⊎-elim (λ (h : n ≤ maxModels). inl (omega arith)) (λ (h : maxModels < n). inr (omega arith)) (le-or-lt n maxModels)
