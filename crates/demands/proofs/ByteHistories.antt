@@ -4,14 +4,14 @@ use mathlib.Core.Path.{_≡_, refl, ap, sym, subst, _∙_}
 use mathlib.Core.Bool.{Bool, true, false, cond, _&&_}
 use mathlib.Core.Logic.{⊎-elim}
 use mathlib.Core.List.{List, [], _∷_}
-use Prim.Native.Nat.{ℕ, zero, suc, _+_, _/_, _%_, _^_, _<_}
+use Prim.Native.Nat.{ℕ, zero, suc, _+_, _%_, _^_, _<_}
 use native.Mathlib.Nat.{eq-zero-or-pos}
 use native.Mathlib.Omega.{arith}
 use lib.Dec.{eqb}
 use lib.ListN.{length}
-use borrow.Author.Tests.{eq-eqb, eqb-true}
+use borrow.Author.Tests.{eq-eqb}
 use Rattle.layout.specs.Items.{Bytes, bytesOf, wholeItems}
-use Rattle.layout.proofs.ItemLists.{length-bytes, bytes-back}
+use Rattle.layout.proofs.ItemLists.{length-bytes}
 use Rattle.path.specs.Model.{Model, modelAt, pathOf}
 use Rattle.path.specs.Update.{kept, extended}
 use Rattle.path.specs.Refusal.{refusalOf, byChecks}

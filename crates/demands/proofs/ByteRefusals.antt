@@ -10,9 +10,8 @@ use native.Mathlib.Omega.{arith}
 use lib.Dec.{ltb, eqb}
 use lib.ListN.{length}
 use borrow.Author.Tests.{ltb-true}
-use Rattle.layout.specs.Items.{Bytes, bytesOf, wholeItems, signedOf, unsignedOf}
-use Rattle.layout.proofs.ItemLists.{bytes-back, items-low}
-use Rattle.layout.proofs.Signs.{unsigned-signed}
+use Rattle.layout.specs.Items.{Bytes, bytesOf, wholeItems, unsignedOf}
+use Rattle.layout.proofs.ItemLists.{bytes-back}
 use Rattle.path.specs.Refusal.{Check, check, refusalOf, byChecks}
 use Rattle.path.specs.Append.{PathOutcome, pathRefused}
 use Rattle.path.proofs.Checks.{both, numbered, check-fails, check-passes, refuses}
@@ -26,9 +25,8 @@ use Rattle.foldwig.specs.Numbers.{shorts, longs, signeds}
 use Rattle.foldwig.specs.Paths.{pathInBytes, appendBytesOf, buildBytesOf, selectBytesOf, breakpointsInBytes, breakpointsBytesOf}
 use Rattle.foldwig.specs.Signals.{pathNumbers, pathBytes, pathWhole, signalPathInBytes, signalPathBytesOf, SplitByteBuffers, splitNumbers, splitBytes, splitWhole, SplitByteOutcome, splitByteRefused, splitInBytes, splitBytesOf}
 use Rattle.foldwig.proofs.SignalPaths.{WholePath, path-is-whole}
-use Rattle.foldwig.proofs.SplitJoins.{WholeSplit, split-is-whole}
+use Rattle.foldwig.proofs.SplitJoins.{signed-items-back, WholeSplit, split-is-whole}
 use Rattle.demands.specs.ByteRefusals.{ByteRefusals}
-use Rattle.demands.proofs.Small.{Small, below-small}
 use Rattle.demands.proofs.Fitting.{shorts-again, longs-again}
 use Rattle.demands.proofs.Signals.{signal-refusals}
 
@@ -109,15 +107,10 @@ buffers-again : (b : PathBuffers) → Bytes (b .sizes) → Bytes (b .losses) →
 buffers-again b bs bl w =
     λ i. pathBuffers (bytes-back 2 (b .sizes) (length (b .sizes) / 2) bs (w .sizes) i) (bytes-back 8 (b .losses) (length (b .losses) / 8) bl (w .losses) i) (b .scratch)
 
--- Numbers of two bytes, read with a sign and written again.
-signs-again : (xs : List ℕ) → Small 65536 xs → map unsignedOf (map signedOf xs) ≡ xs
-signs-again [] s = refl
-signs-again (x ∷ xs) s = λ i. unsigned-signed x (s .0) i ∷ signs-again xs (s .1) i
-
 split-again : (b : SplitByteBuffers) → Bytes (b .starts) → Bytes (b .levels) → Bytes (b .path .sizes) → Bytes (b .path .losses) → WholeSplit b → splitBytes (splitNumbers b) ≡ b
 split-again b bt bv bs bl w =
     let n = length (b .levels) / 2 in
-    let levels : bytesOf 2 (map unsignedOf (signeds (b .levels))) ≡ b .levels = ap (bytesOf 2) (signs-again (shorts (b .levels)) (below-small 65536 (shorts (b .levels)) (items-low 2 (b .levels) n bv))) ∙ bytes-back 2 (b .levels) n bv (w .levels) in
+    let levels : bytesOf 2 (map unsignedOf (signeds (b .levels))) ≡ b .levels = ap (bytesOf 2) (signed-items-back (b .levels) bv n) ∙ bytes-back 2 (b .levels) n bv (w .levels) in
     λ i.
     record {
       starts = bytes-back 2 (b .starts) (length (b .starts) / 2) bt (w .starts) i;

@@ -2,8 +2,7 @@
 -- the call before it, and the number of entries that the last accepted call answered. What is claimed of the numbers that the
 -- strings hold at the end is what is claimed of a history of calls on numbers.
 use mathlib.Core.List.{List, [], _∷_}
-use Prim.Native.Nat.{ℕ, _<_}
-use lib.ListN.{getD}
+use Prim.Native.Nat.{ℕ}
 use Rattle.layout.specs.Items.{Bytes}
 use Rattle.path.specs.Model.{Model}
 use Rattle.hull.specs.History.{State, Start, empty, build, emptyState, afterCall, modelsOf, pathAt}

@@ -38,7 +38,7 @@ signs-back : (xs : List ℕ) → Below 65536 xs → map unsignedOf (map signedOf
 signs-back [] b = refl
 signs-back (x ∷ xs) b = λ i. unsigned-signed x (b 0 (omega arith)) i ∷ signs-back xs (λ j h. b (suc j) (omega arith)) i
 
-signed-items-back : (bytes : List ℕ) → Bytes bytes → (n : ℕ) → map unsignedOf (map signedOf (itemsTo 2 bytes n)) ≡ itemsTo 2 bytes n
+pub signed-items-back : (bytes : List ℕ) → Bytes bytes → (n : ℕ) → map unsignedOf (map signedOf (itemsTo 2 bytes n)) ≡ itemsTo 2 bytes n
 signed-items-back bytes b n = signs-back (itemsTo 2 bytes n) (items-low 2 bytes n b)
 
 -- Signed items over the front of whole items, with the rest of these after them.

@@ -30,13 +30,13 @@ take-items k bytes c n h =
     let e : n ≡ c + (n - c) = omega arith in ap (λ (m : ℕ). take c (itemsTo k bytes m)) e ∙ take-more k bytes c (n - c)
 
 -- A number's bytes are k bytes.
-pub length-itemBytes : (k v : ℕ) → length (itemBytes k v) ≡ k
+length-itemBytes : (k v : ℕ) → length (itemBytes k v) ≡ k
 unfolding itemBytes
 length-itemBytes zero v = refl
 length-itemBytes (suc k) v = ap suc (length-itemBytes k (v / 256))
 
 -- A put is the number's bytes in the place of those that stood there.
-pub put-spells : (k : ℕ) (bytes : List ℕ) (at v : ℕ) → at + k ≤ length bytes → setItem k bytes at v ≡ take at bytes ++ (itemBytes k v ++ drop (at + k) bytes)
+put-spells : (k : ℕ) (bytes : List ℕ) (at v : ℕ) → at + k ≤ length bytes → setItem k bytes at v ≡ take at bytes ++ (itemBytes k v ++ drop (at + k) bytes)
 unfolding setItem itemBytes
 put-spells zero bytes at v h = rw add-zero (sym (take-append-drop at bytes))
 put-spells (suc k) bytes at v h =
@@ -52,7 +52,7 @@ unfolding bytesOf
 bytes-append k [] ys = refl
 bytes-append k (x ∷ xs) ys = ap (λ (r : List ℕ). itemBytes k x ++ r) (bytes-append k xs ys) ∙ sym (append-assoc (itemBytes k x) (bytesOf k xs) (bytesOf k ys))
 
-pub bytes-one : (k v : ℕ) → bytesOf k (v ∷ []) ≡ itemBytes k v
+bytes-one : (k v : ℕ) → bytesOf k (v ∷ []) ≡ itemBytes k v
 unfolding bytesOf
 bytes-one k v = append-nil (itemBytes k v)
 
@@ -63,7 +63,7 @@ length-bytes k (x ∷ xs) =
     length-append (itemBytes k x) (bytesOf k xs) ∙ omega (arith, length-itemBytes k x, length-bytes k xs, mul-suc k (length xs))
 
 -- An item's bytes are got back.
-pub item-bytes-back : (k : ℕ) (bytes : List ℕ) (at : ℕ) → Bytes bytes → at + k ≤ length bytes → itemBytes k (item k bytes at) ≡ take k (drop at bytes)
+item-bytes-back : (k : ℕ) (bytes : List ℕ) (at : ℕ) → Bytes bytes → at + k ≤ length bytes → itemBytes k (item k bytes at) ≡ take k (drop at bytes)
 unfolding itemBytes item
 item-bytes-back zero bytes at b h = refl
 item-bytes-back (suc k) bytes at b h =
@@ -87,19 +87,19 @@ abbrev pub written : ℕ → List ℕ → ℕ → List ℕ → List ℕ
 written k items i bytes = bytesOf k (take i items) ++ drop (k * i) bytes
 
 -- The first i items read to the front of a list.
-abbrev pub readTo : ℕ → List ℕ → ℕ → List ℕ → List ℕ
+abbrev readTo : ℕ → List ℕ → ℕ → List ℕ → List ℕ
 readTo k bytes i items = itemsTo k bytes i ++ drop i items
 
 module _ (k : ℕ) (items bytes : List ℕ) where
   length-front : (i : ℕ) → i ≤ length items → length (bytesOf k (take i items)) ≡ k * i
   length-front i h = length-bytes k (take i items) ∙ ap (λ (n : ℕ). k * n) (length-take-le i items h)
 
-  pub length-written : (i : ℕ) → i ≤ length items → k * i ≤ length bytes → length (written k items i bytes) ≡ length bytes
+  length-written : (i : ℕ) → i ≤ length items → k * i ≤ length bytes → length (written k items i bytes) ≡ length bytes
   length-written i h f =
       length-append (bytesOf k (take i items)) (drop (k * i) bytes) ∙ omega (arith, length-front i h, length-drop (k * i) bytes)
 
-  -- one item more is written
-  pub write-more : (i : ℕ) → i < length items → k * suc i ≤ length bytes → setItem k (written k items i bytes) (k * i) (getD items i 0) ≡ written k items (suc i) bytes
+  -- One item more is written.
+  write-more : (i : ℕ) → i < length items → k * suc i ≤ length bytes → setItem k (written k items i bytes) (k * i) (getD items i 0) ≡ written k items (suc i) bytes
   write-more i h f =
       let p = bytesOf k (take i items) in
       let m : k * suc i ≡ k * i + k = mul-suc k i in
@@ -111,11 +111,8 @@ module _ (k : ℕ) (items bytes : List ℕ) where
       put-spells k (p ++ drop (k * i) bytes) (k * i) (getD items i 0) (omega (arith, length-written i (omega arith) (omega arith)))
       ∙ rw (take-at p (drop (k * i) bytes) (k * i) l, d, t, m) (sym (append-assoc p (itemBytes k (getD items i 0)) (drop (k * i + k) bytes)))
 
-  pub length-read : (i : ℕ) → i ≤ length items → length (readTo k bytes i items) ≡ length items
-  length-read i h = length-append (itemsTo k bytes i) (drop i items) ∙ omega (arith, length-items k bytes i, length-drop i items)
-
-  -- one item more is read
-  pub read-more : (i : ℕ) → i < length items → set (readTo k bytes i items) i (item k bytes (k * i)) ≡ readTo k bytes (suc i) items
+  -- One item more is read.
+  read-more : (i : ℕ) → i < length items → set (readTo k bytes i items) i (item k bytes (k * i)) ≡ readTo k bytes (suc i) items
   unfolding itemsTo
   read-more i h =
       rw (drop-cons items i 0 h)
@@ -152,7 +149,7 @@ item-spelled (suc k) v rest h =
     let more : item k (v % 256 ∷ (itemBytes k (v / 256) ++ rest)) 1 ≡ item k (itemBytes k (v / 256) ++ rest) 0 = item-shift k (v % 256 ∷ []) (itemBytes k (v / 256) ++ rest) 0 in
     omega (arith, more, item-spelled k (v / 256) rest (omega (arith, pow-suc 256 k)))
 
--- every element is below a limit
+-- Every element is below a limit.
 abbrev pub Below : ℕ → List ℕ → Type 0
 Below limit xs = (i : ℕ) → i < length xs → getD xs i 0 < limit
 
