@@ -77,7 +77,7 @@ enum foldwig_refusal {
     FOLDWIG_BAD_PATH = 8,           /* The path lent is out of range or out of order, or shorter than its number of entries. */
     FOLDWIG_NO_ROOM = 9,            /* A buffer is too short. */
     FOLDWIG_EMPTY_PATH = 10,        /* There is no entry to select. */
-    FOLDWIG_BAD_LENGTH = 11         /* The length of a byte string is no multiple of the width of its items. */
+    FOLDWIG_BAD_LENGTH = 11         /* A byte string ends inside an item: its length is not divisible by the width. */
 };
 
 /* The number of refusals with 0, and a short text for each: the initialiser of an array of so many strings. */
