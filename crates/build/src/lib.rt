@@ -33,7 +33,7 @@ fn list_refusal(sizes: &[u64], losses: &[u64], count: usize) -> u64
 }
 
 // The larger of two numbers.
-fn larger(a: usize, b: usize) -> usize
+pub fn larger(a: usize, b: usize) -> usize
     ensures { λ r. ⌜ r ≡ max a b ⌝ }
 {
     if a < b { b } else { a }

@@ -140,16 +140,18 @@ too-many-refused : (a b s l : List ℕ) → maxModels < countOf a b → buildOf 
 too-many-refused a b s l h =
     sym (build-refused a b s l 2 (sym (too-many a b (length s) (length l) (countOf a b) (λ z. omega arith) h)) (λ z. omega arith))
 
-module _ (a b s l : List ℕ) (d : ℕ) (places : maxModels ≤ d) where
+-- Of the buffers of a build as many places are looked at as there are models, where these are not too many.
+module _ (a b s l : List ℕ) (d : ℕ) (places : countOf a b ≤ maxModels → countOf a b ≤ d) where
   few-cut : countOf a b ≤ maxModels → buildOf a b s l ≡ pathLonger (drop d s) (drop d l) (buildOf a b (take d s) (take d l))
   unfolding buildOf
   few-cut h =
       let n = countOf a b in
-      let room : roomFor n (length (take d s) ∷ length (take d l) ∷ []) ≡ roomFor n (length s ∷ length l ∷ []) = rw (leb-take n d s (omega arith), leb-take n d l (omega arith)) in
+      let near : n ≤ d = places h in
+      let room : roomFor n (length (take d s) ∷ length (take d l) ∷ []) ≡ roomFor n (length s ∷ length l ∷ []) = rw (leb-take n d s near, leb-take n d l near) in
       by-checks-cut (pathLonger (drop d s) (drop d l)) (buildChecks a b (length s) (length l)) (buildChecks a b (length (take d s)) (length (take d l))) (pathRefused s l) (pathRefused (take d s) (take d l)) _ _
       (λ i. refusalOf (check 1 (leb 1 n) ∷ check 2 (leb n maxModels) ∷ (listChecks a b 0 n ++ (check 9 (room i) ∷ []))))
       (refused-cut d s l)
-      (λ e. left-cut (built a b n) (builtTests a b n) n d s l (omega (arith, built-few a b n)) (omega arith))
+      (λ e. left-cut (built a b n) (builtTests a b n) n d s l (omega (arith, near, built-few a b n)) near)
 
   pub build-cut : (c : ℕ) → maxModels < c → buildOf a b s l ≡ pathLonger (drop d s) (drop d l) (buildOf (take c a) (take c b) (take d s) (take d l))
   build-cut c more =

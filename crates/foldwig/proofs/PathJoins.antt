@@ -3,10 +3,11 @@
 use mathlib.Core.Path.{_≡_, ap, sym, subst, _∙_}
 use mathlib.Core.Bool.{true, _&&_}
 use mathlib.Core.List.{List, _++_}
-use Prim.Native.Nat.{ℕ, suc, _+_, _*_, _-_, _/_, min}
+use Prim.Native.Nat.{ℕ, suc, _+_, _*_, _-_, _/_, _≤_, min, max}
 use native.Mathlib.Omega.{arith}
 use lib.ListN.{length, drop}
 use Rattle.layout.specs.Items.{Bytes, itemsTo, itemsOf, bytesOf, wholeItems}
+use Rattle.layout.proofs.ItemLists.{length-items}
 use Rattle.path.specs.Model.{Model}
 use Rattle.path.specs.Refusal.{maxModels}
 use Rattle.path.specs.Append.{PathOutcome, pathOutcome, pathRefused, appendOf}
@@ -14,7 +15,7 @@ use Rattle.path.specs.Inner.{tallyOf}
 use Rattle.path.specs.declared.PathResult.{PathResult}
 use Rattle.path.proofs.Checks.{both}
 use Rattle.path.proofs.Cases.{append-refusal, append-refused}
-use Rattle.build.specs.Build.{buildOf}
+use Rattle.build.specs.Build.{countOf, buildOf}
 use Rattle.build.proofs.Cases.{build-refusal, build-refused}
 use Rattle.select.specs.Select.{selectOf}
 use Rattle.foldwig.specs.Paths.{pathInBytes, appendBytesOf, buildBytesOf, selectBytesOf}
@@ -84,18 +85,29 @@ module _ (s l : List ℕ) (n p q : ℕ) where
       sym (select-cut c (itemsOf 2 s) (itemsOf 8 l) p q n (enough-places n c ec) ∙ (λ i. selectOf (counted-items 2 s c a ea i) (counted-items 8 l c b eb i) n p q))
       ∙ on-layout _ _ (wholeItems 2 s && wholeItems 8 l) whole
 
+-- Of models that are not too many all are among those that are read.
+models-near : (m n : ℕ) → max m n ≤ maxModels → max m n ≤ min (max (min m (maxModels + 1)) (min n (maxModels + 1))) maxModels
+models-near m n h =
+    let em : min m (maxModels + 1) ≡ m = omega arith in
+    let en : min n (maxModels + 1) ≡ n = omega arith in
+    subst (λ (k : ℕ). max m n ≤ min k maxModels) (λ i. max (sym em i) (sym en i)) (omega arith)
+
 -- A build from two byte strings in two others.
 module _ (x y s l : List ℕ) where
-  pub build-bytes : (wholeItems 2 x && wholeItems 8 y) ≡ true → (wholeItems 2 s && wholeItems 8 l) ≡ true → Bytes s → Bytes l → (a b c d : ℕ)
-      → a ≡ min (length x / 2) (maxModels + 1) → b ≡ min (length y / 8) (maxModels + 1) → c ≡ min (length s / 2) maxModels → d ≡ min (length l / 8) maxModels
+  pub build-bytes : (wholeItems 2 x && wholeItems 8 y) ≡ true → (wholeItems 2 s && wholeItems 8 l) ≡ true → Bytes s → Bytes l → (a b most c d : ℕ)
+      → a ≡ min (length x / 2) (maxModels + 1) → b ≡ min (length y / 8) (maxModels + 1) → most ≡ min (max a b) maxModels → c ≡ min (length s / 2) most → d ≡ min (length l / 8) most
       → pathOverFront c d s l (buildOf (itemsTo 2 x a) (itemsTo 8 y b) (itemsTo 2 s c) (itemsTo 8 l d)) ≡ buildBytesOf x y s l
   unfolding buildBytesOf
-  build-bytes first second bs bl a b c d ea eb ec ed =
+  build-bytes first second bs bl a b most c d ea eb em ec ed =
       let sizes = sym (counted-items 2 x (maxModels + 1) a ea) in
       let losses = sym (counted-items 8 y (maxModels + 1) b eb) in
-      let path-sizes = sym (counted-items 2 s maxModels c ec) in
-      let path-losses = sym (counted-items 8 l maxModels d ed) in
-      sym (path-joined s l maxModels c d bs bl second ec ed (buildOf (itemsTo 2 x a) (itemsTo 8 y b) (itemsTo 2 s c) (itemsTo 8 l d)))
-      ∙ (λ i. pathInBytes (pathLonger (drop maxModels (itemsOf 2 s)) (drop maxModels (itemsOf 8 l)) (buildOf (sizes i) (losses i) (path-sizes i) (path-losses i))))
-      ∙ ap pathInBytes (sym (build-cut (itemsOf 2 x) (itemsOf 8 y) (itemsOf 2 s) (itemsOf 8 l) maxModels (omega arith) (maxModels + 1) (omega arith)))
+      let path-sizes = sym (counted-items 2 s most c ec) in
+      let path-losses = sym (counted-items 8 l most d ed) in
+      let count : countOf (itemsOf 2 x) (itemsOf 8 y) ≡ max (length x / 2) (length y / 8) = λ i. max (length-items 2 x (length x / 2) i) (length-items 8 y (length y / 8) i) in
+      let read : min (max (min (length x / 2) (maxModels + 1)) (min (length y / 8) (maxModels + 1))) maxModels ≡ most = (λ i. min (max (sym ea i) (sym eb i)) maxModels) ∙ sym em in
+      let near : max (length x / 2) (length y / 8) ≤ maxModels → max (length x / 2) (length y / 8) ≤ most =
+      λ h. subst (λ (k : ℕ). max (length x / 2) (length y / 8) ≤ k) read (models-near (length x / 2) (length y / 8) h) in
+      sym (path-joined s l most c d bs bl second ec ed (buildOf (itemsTo 2 x a) (itemsTo 8 y b) (itemsTo 2 s c) (itemsTo 8 l d)))
+      ∙ (λ i. pathInBytes (pathLonger (drop most (itemsOf 2 s)) (drop most (itemsOf 8 l)) (buildOf (sizes i) (losses i) (path-sizes i) (path-losses i))))
+      ∙ ap pathInBytes (sym (build-cut (itemsOf 2 x) (itemsOf 8 y) (itemsOf 2 s) (itemsOf 8 l) most (subst (λ (k : ℕ). k ≤ maxModels → k ≤ most) (sym count) near) (maxModels + 1) (omega arith)))
       ∙ on-layout _ _ (wholeItems 2 x && wholeItems 8 y && wholeItems 2 s && wholeItems 8 l) (rw first second)

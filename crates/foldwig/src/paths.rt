@@ -15,6 +15,7 @@ ghost use Rattle.select.specs.Select.{selectOf};
 ghost use Rattle.select.specs.Breakpoints.{breakpointsOutcome, breakpointsOf};
 ghost use Rattle.foldwig.specs.Paths.{appendBytesOf, buildBytesOf, selectBytesOf, breakpointsBytesOf};
 ghost use Rattle.foldwig.specs.PathsInner.{Holds, pathOverFront, breakpointsOverFront};
+use build::larger;
 use layout::read_items;
 use layout::write_items;
 use least::smaller;
@@ -161,8 +162,9 @@ pub extern "C" fn foldwig_build(
     let mut path_loss_items = [0u64; MAX_MODELS];
     let a = smaller(sizes.len() / 2, MODELS_READ);
     let b = smaller(losses.len() / 8, MODELS_READ);
-    let s = smaller(path_sizes.len() / 2, MAX_MODELS);
-    let l = smaller(path_losses.len() / 8, MAX_MODELS);
+    let most = smaller(larger(a, b), MAX_MODELS);
+    let s = smaller(path_sizes.len() / 2, most);
+    let l = smaller(path_losses.len() / 8, most);
     build_items(
         sizes,
         losses,

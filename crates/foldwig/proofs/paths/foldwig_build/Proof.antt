@@ -48,49 +48,56 @@ smaller-requires c κs = search needs
 smaller-requires-2 : tie.Need-smaller-requires-2
 smaller-requires-2 c κs = search needs
 
+larger-requires : tie.Need-larger-requires
+larger-requires c κs = search needs
+
 smaller-requires-3 : tie.Need-smaller-requires-3
 smaller-requires-3 c κs = search needs
 
 smaller-requires-4 : tie.Need-smaller-requires-4
 smaller-requires-4 c κs = search needs
 
+smaller-requires-5 : tie.Need-smaller-requires-5
+smaller-requires-5 c κs = search needs
+
 array-borrow-prefix-size-items : tie.Need-array-borrow-prefix-size-items
 array-borrow-prefix-size-items c = search needs
 
 slice-aggregate-build-items : tie.Need-slice-aggregate-build-items
-slice-aggregate-build-items c = sym (repeated-front {A = ℕ} 0 4097 (c .before .before .before .before .before .before .smaller .result) (omega (arith, c .before .before .before .before .before .before .smaller .ensures)))
+slice-aggregate-build-items c = sym (repeated-front {A = ℕ} 0 4097 (c .before .before .before .before .before .before .before .before .smaller .result) (omega (arith, c .before .before .before .before .before .before .before .before .smaller .ensures)))
 
 array-borrow-prefix-loss-items : tie.Need-array-borrow-prefix-loss-items
 array-borrow-prefix-loss-items c = search needs
 
 slice-aggregate-build-items-2 : tie.Need-slice-aggregate-build-items-2
-slice-aggregate-build-items-2 c = sym (repeated-front {A = ℕ} 0 4097 (c .before .before .before .before .before .before .smaller2 .result) (omega (arith, c .before .before .before .before .before .before .smaller2 .ensures)))
+slice-aggregate-build-items-2 c = sym (repeated-front {A = ℕ} 0 4097 (c .before .before .before .before .before .before .before .before .smaller2 .result) (omega (arith, c .before .before .before .before .before .before .before .before .smaller2 .ensures)))
 
 array-borrow-prefix-path-size-items : tie.Need-array-borrow-prefix-path-size-items
 array-borrow-prefix-path-size-items c = search needs
 
 slice-aggregate-build-items-3 : tie.Need-slice-aggregate-build-items-3
-slice-aggregate-build-items-3 c = sym (repeated-front {A = ℕ} 0 4096 (c .before .before .before .before .before .before .smaller3 .result) (omega (arith, c .before .before .before .before .before .before .smaller3 .ensures)))
+slice-aggregate-build-items-3 c = sym (repeated-front {A = ℕ} 0 4096 (c .before .before .before .before .before .before .smaller4 .result) (omega (arith, c .before .before .before .before .before .before .smaller4 .ensures, c .before .before .before .before .before .before .before .smaller3 .ensures)))
 
 array-borrow-prefix-path-loss-items : tie.Need-array-borrow-prefix-path-loss-items
 array-borrow-prefix-path-loss-items c = search needs
 
 slice-aggregate-build-items-4 : tie.Need-slice-aggregate-build-items-4
-slice-aggregate-build-items-4 c = sym (repeated-front {A = ℕ} 0 4096 (c .before .before .before .before .before .before .smaller4 .result) (omega (arith, c .before .before .before .before .before .before .smaller4 .ensures)))
+slice-aggregate-build-items-4 c = sym (repeated-front {A = ℕ} 0 4096 (c .before .before .before .before .before .before .smaller5 .result) (omega (arith, c .before .before .before .before .before .before .smaller5 .ensures, c .before .before .before .before .before .before .before .before .smaller3 .ensures)))
 
 build-items-requires : tie.Need-build-items-requires
 build-items-requires c κs =
-    let x = c .before .before .before .before .before .before .before .before .before .smaller in
-    let y = c .before .before .before .before .before .before .before .before .smaller2 in
-    let s = c .before .before .before .before .before .before .before .smaller3 in
-    let l = c .before .before .before .before .before .before .smaller4 in (
+    let x = c .before .before .before .before .before .before .before .before .before .before .before .smaller in
+    let y = c .before .before .before .before .before .before .before .before .before .before .smaller2 in
+    let most = c .before .before .before .before .before .before .before .before .smaller3 in
+    let s = c .before .before .before .before .before .before .before .smaller4 in
+    let l = c .before .before .before .before .before .before .smaller5 in (
       record {
         in-shorts = omega (arith, counted-front {A = ℕ} 0 4097 (x .result) _ _ (x .ensures) (omega arith));
         in-longs = omega (arith, counted-front {A = ℕ} 0 4097 (y .result) _ _ (y .ensures) (omega arith));
       },
       record {
-        in-shorts = omega (arith, counted-front {A = ℕ} 0 4096 (s .result) _ _ (s .ensures) (omega arith));
-        in-longs = omega (arith, counted-front {A = ℕ} 0 4096 (l .result) _ _ (l .ensures) (omega arith));
+        in-shorts = omega (arith, counted-front {A = ℕ} 0 4096 (s .result) _ _ (s .ensures) (omega (arith, most .ensures)));
+        in-longs = omega (arith, counted-front {A = ℕ} 0 4096 (l .result) _ _ (l .ensures) (omega (arith, most .ensures)));
       },
     )
 
@@ -102,16 +109,19 @@ same-length-2 c = search needs
 
 returns-3 : tie.Need-returns-3
 returns-3 c =
-    let a = c .before .before .before .before .before .before .before .before .before .before .before .before .before .before .before .before .before .before .before .before .before .before .before .before .before .before .before .args in
-    let x = c .before .before .before .before .before .before .before .before .before .before .before .before .before .before .before .before .before .before .smaller in
-    let y = c .before .before .before .before .before .before .before .before .before .before .before .before .before .before .before .before .before .smaller2 in
-    let s = c .before .before .before .before .before .before .before .before .before .before .before .before .before .before .before .before .smaller3 in
-    let l = c .before .before .before .before .before .before .before .before .before .before .before .before .before .before .before .smaller4 in
+    let a = c .before .before .before .before .before .before .before .before .before .before .before .before .before .before .before .before .before .before .before .before .before .before .before .before .before .before .before .before .before .args in
+    let x = c .before .before .before .before .before .before .before .before .before .before .before .before .before .before .before .before .before .before .before .before .smaller in
+    let y = c .before .before .before .before .before .before .before .before .before .before .before .before .before .before .before .before .before .before .before .smaller2 in
+    let big = c .before .before .before .before .before .before .before .before .before .before .before .before .before .before .before .before .before .before .larger in
+    let most = c .before .before .before .before .before .before .before .before .before .before .before .before .before .before .before .before .before .smaller3 in
+    let s = c .before .before .before .before .before .before .before .before .before .before .before .before .before .before .before .before .smaller4 in
+    let l = c .before .before .before .before .before .before .before .before .before .before .before .before .before .before .before .smaller5 in
     c .before .before .before .before .before .before .before .before .build-items .ensures
-    ∙ build-bytes (a .sizes .now) (a .losses .now) (a .path-sizes .now) (a .path-losses .now) (sym (c .before .before .before .before .before .before .before .before .before .before .before .before .before .before .before .before .before .before .before .before .before .before .whole-items .ensures) ∙ not-false _ (c .before .before .before .before .before .before .before .before .before .before .before .before .before .before .before .before .before .before .before .before .before .if1 .left)) (sym (c .before .before .before .before .before .before .before .before .before .before .before .before .before .before .before .before .before .before .before .before .whole-items2 .ensures) ∙ not-false _ (c .before .before .before .before .before .before .before .before .before .before .before .before .before .before .before .before .before .before .before .if2 .left))
-    (λ i. omega (arith, c .before .before .before .before .before .before .before .before .before .before .before .before .before .before .before .before .before .before .before .before .before .before .before .before .slice-known .given i)) (λ i. omega (arith, c .before .before .before .before .before .before .before .before .before .before .before .before .before .before .before .before .before .before .before .before .before .before .before .slice-known2 .given i)) _ _ _ _
+    ∙ build-bytes (a .sizes .now) (a .losses .now) (a .path-sizes .now) (a .path-losses .now) (sym (c .before .before .before .before .before .before .before .before .before .before .before .before .before .before .before .before .before .before .before .before .before .before .before .before .whole-items .ensures) ∙ not-false _ (c .before .before .before .before .before .before .before .before .before .before .before .before .before .before .before .before .before .before .before .before .before .before .before .if1 .left)) (sym (c .before .before .before .before .before .before .before .before .before .before .before .before .before .before .before .before .before .before .before .before .before .before .whole-items2 .ensures) ∙ not-false _ (c .before .before .before .before .before .before .before .before .before .before .before .before .before .before .before .before .before .before .before .before .before .if2 .left))
+    (λ i. omega (arith, c .before .before .before .before .before .before .before .before .before .before .before .before .before .before .before .before .before .before .before .before .before .before .before .before .before .before .slice-known .given i)) (λ i. omega (arith, c .before .before .before .before .before .before .before .before .before .before .before .before .before .before .before .before .before .before .before .before .before .before .before .before .before .slice-known2 .given i)) _ _ (most .result) _ _
     (counted-front {A = ℕ} 0 4097 (x .result) _ _ (x .ensures) (omega arith)) (counted-front {A = ℕ} 0 4097 (y .result) _ _ (y .ensures) (omega arith))
-    (counted-front {A = ℕ} 0 4096 (s .result) _ _ (s .ensures) (omega arith)) (counted-front {A = ℕ} 0 4096 (l .result) _ _ (l .ensures) (omega arith))
+    (omega (arith, most .ensures, big .ensures, x .ensures, y .ensures, counted-front {A = ℕ} 0 4097 (x .result) _ _ (x .ensures) (omega arith), counted-front {A = ℕ} 0 4097 (y .result) _ _ (y .ensures) (omega arith)))
+    (counted-front {A = ℕ} 0 4096 (s .result) _ _ (s .ensures) (omega (arith, most .ensures))) (counted-front {A = ℕ} 0 4096 (l .result) _ _ (l .ensures) (omega (arith, most .ensures)))
 
 pub foldwig-build-spec : {M : Type 1} → statement M
 foldwig-build-spec =
@@ -125,8 +135,10 @@ foldwig-build-spec =
     returns-2
     smaller-requires
     smaller-requires-2
+    larger-requires
     smaller-requires-3
     smaller-requires-4
+    smaller-requires-5
     array-borrow-prefix-size-items
     slice-aggregate-build-items
     array-borrow-prefix-loss-items
