@@ -75,7 +75,7 @@ module _ (s l : List ℕ) where
       follows-before (modelAt s l i) (modelAt s l (suc i)) (ordered-parts (modelAt s l (suc i)) (modelAt s l i) (pathOf s l i) (ordered-front n (suc (suc i)) h p) .1)
 
   -- An entry of an ordered path is in range.
-  ordered-within : (n i : ℕ) → ordered (pathOf s l n) ≡ true → i < n → Within (modelAt s l i)
+  pub ordered-within : (n i : ℕ) → ordered (pathOf s l n) ≡ true → i < n → Within (modelAt s l i)
   ordered-within n i h p = within (modelAt s l i) (last-in-range i (ordered-front n (suc i) h p))
 
   -- No entry of an ordered path has a larger size or a smaller loss than the last one.

@@ -1,0 +1,11 @@
+pub mod Inputs
+pub mod Judged
+pub mod Layouts
+pub mod Items
+pub mod Turns
+pub mod Texts
+pub mod Lengths
+pub mod Answers
+pub mod Replies
+pub mod Wholes
+pub mod FormsRead

@@ -1,0 +1,9 @@
+pub mod Digits
+pub mod Parts
+pub mod Inverse
+pub mod Values
+pub mod Searches
+pub mod Readings
+pub mod Nests
+pub mod Prints
+pub mod Texts

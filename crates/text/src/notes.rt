@@ -1,0 +1,90 @@
+// Notes. Skipping one form and skipping the items inside it call each other; the depth and the bytes left fall.
+
+ghost use mathlib.Core.Path.{_≡_};
+ghost use mathlib.Core.Bool.{_&&_};
+ghost use Prim.Native.Nat.{suc, _+_, _-_, _≤_, _<_};
+ghost use lib.Dec.{ltb};
+ghost use lib.ListN.{length, drop};
+ghost use Rattle.text.specs.Notes.{closes, begins, isNote};
+ghost use Rattle.text.specs.Inner.{resumed, Past};
+
+// Where skipping ends: at a place, or nowhere because the text is off the layout.
+pub enum Skip {
+    At(usize),
+    Off,
+}
+
+// The place after the items from at on and the bracket that closes them. So many more brackets may be open at a time.
+fn skip_items(text: &[u8], at: usize, depth: u64) -> Skip
+    requires { ⌜ (depth ≤ 7) × (at ≤ length (now text)) ⌝ }
+    ensures means { λ r. ⌜ closes (suc (7 - depth)) (drop at (now (text .entry))) ≡ resumed (7 - depth) (now (text .entry)) r ⌝ }
+    ensures past { λ r. ⌜ Past at (now (text .entry)) r ⌝ }
+{
+    let mut i = at;
+    while i < text.len() {
+        let b = text[i];
+        if b == 41 {
+            return Skip::At(i + 1);
+        }
+        if b == 40 {
+            match skip_form(text, i, depth) {
+                Skip::At(next) => {
+                    i = next;
+                }
+                Skip::Off => {
+                    return Skip::Off;
+                }
+            }
+        } else {
+            if b < 32 {
+                return Skip::Off;
+            }
+            if 126 < b {
+                return Skip::Off;
+            }
+            i += 1;
+        }
+    }
+    Skip::Off
+}
+
+// The place after the form whose opening bracket is at at.
+fn skip_form(text: &[u8], at: usize, depth: u64) -> Skip
+    requires { ⌜ (depth ≤ 8) × (at < length (now text)) ⌝ }
+    ensures means { λ r. ⌜ (ltb (8 - depth) 8 && closes (suc (8 - depth)) (drop (at + 1) (now (text .entry)))) ≡ resumed (8 - depth) (now (text .entry)) r ⌝ }
+    ensures past { λ r. ⌜ Past at (now (text .entry)) r ⌝ }
+{
+    if depth == 0 {
+        return Skip::Off;
+    }
+    skip_items(text, at + 1, depth - 1)
+}
+
+// Whether a line begins as a note does: `(note` and then a blank or the closing bracket.
+fn begins_note(line: &[u8]) -> bool
+    ensures { λ r. ⌜ r ≡ begins (now (line .entry)) ⌝ }
+{
+    if line.len() < 6 {
+        return false;
+    }
+    if !crate::words::same(&line[..5], b"(note") {
+        return false;
+    }
+    if line[5] == 32 {
+        return true;
+    }
+    line[5] == 41
+}
+
+// Whether a line is a note and nothing else.
+pub fn is_note(line: &[u8]) -> bool
+    ensures { λ r. ⌜ r ≡ isNote (now (line .entry)) ⌝ }
+{
+    if !begins_note(line) {
+        return false;
+    }
+    match skip_form(line, 0, 8) {
+        Skip::At(next) => next == line.len(),
+        Skip::Off => false,
+    }
+}
