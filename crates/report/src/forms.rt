@@ -61,7 +61,7 @@ fn next_line(input: &[u8], at: usize) -> Line
 {
     let mut i = at;
     while i < input.len() {
-        let end = find(input, i, 10);
+        let end = find(input, i, b'\n');
         if end == input.len() {
             return Line::Off;
         }
@@ -80,11 +80,11 @@ fn in_brackets(line: &[u8]) -> bool
     if line.len() < 2 {
         return false;
     }
-    if line[0] != 40 {
+    if line[0] != b'(' {
         return false;
     }
     let last = line.len() - 1;
-    line[last] == 41
+    line[last] == b')'
 }
 
 // Reads the samples after each blank from at on, where a blank stands or the text ends.
@@ -96,7 +96,7 @@ fn read_samples(text: &[u8], from: usize, samples: &mut [i16]) -> SignalForm
     let mut count = 0;
     while at < text.len() {
         let start = at + 1;
-        let end = find(text, start, 32);
+        let end = find(text, start, b' ');
         match read_sample(&text[start..end]) {
             Sample::Value(x) => {
                 samples[count] = x;
@@ -116,7 +116,7 @@ fn signal_words(text: &[u8], samples: &mut [i16]) -> SignalForm
     requires { ⌜ length (now text) ≤ length (now samples) ⌝ }
     ensures { λ r. ⌜ SignalRead (wordsForm (partsOf 32 (now (text .entry)))) (now (samples .exit)) r ⌝ }
 {
-    let end = find(text, 0, 32);
+    let end = find(text, 0, b' ');
     if !same(&text[..end], b"record") {
         return SignalForm::Off;
     }
@@ -139,7 +139,7 @@ fn read_signal(line: &[u8], samples: &mut [i16]) -> SignalForm
 fn limit_words(text: &[u8]) -> Figure
     ensures { λ r. ⌜ LimitRead (wordsForm (partsOf 32 (now (text .entry)))) r ⌝ }
 {
-    let end = find(text, 0, 32);
+    let end = find(text, 0, b' ');
     if !same(&text[..end], b"limit") {
         return Figure::Off;
     }
@@ -147,7 +147,7 @@ fn limit_words(text: &[u8]) -> Figure
         return Figure::Off;
     }
     let start = end + 1;
-    let stop = find(text, start, 32);
+    let stop = find(text, start, b' ');
     if stop != text.len() {
         return Figure::Off;
     }
@@ -183,7 +183,7 @@ fn two_figures(first: &[u8], second: &[u8]) -> PenaltyForm
 fn penalty_words(text: &[u8]) -> PenaltyForm
     ensures { λ r. ⌜ PenaltyRead (wordsForm (partsOf 32 (now (text .entry)))) (length (now (text .entry))) r ⌝ }
 {
-    let end = find(text, 0, 32);
+    let end = find(text, 0, b' ');
     if !same(&text[..end], b"price") {
         return PenaltyForm::Off;
     }
@@ -191,12 +191,12 @@ fn penalty_words(text: &[u8]) -> PenaltyForm
         return PenaltyForm::Off;
     }
     let start = end + 1;
-    let middle = find(text, start, 32);
+    let middle = find(text, start, b' ');
     if middle == text.len() {
         return PenaltyForm::Off;
     }
     let second = middle + 1;
-    let stop = find(text, second, 32);
+    let stop = find(text, second, b' ');
     if stop != text.len() {
         return PenaltyForm::Off;
     }

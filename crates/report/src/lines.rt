@@ -32,7 +32,7 @@ fn put_model(output: &mut [u8], at: usize, size: u64, loss: u64) -> usize
     let number = put_number(output, word, size);
     let second = put_text(output, number, b" loss ");
     let value = put_number(output, second, loss);
-    put_byte(output, value, 41)
+    put_byte(output, value, b')')
 }
 
 // Writes a breakpoint as an item of the path line.
@@ -42,7 +42,7 @@ fn put_breakpoint(output: &mut [u8], at: usize, numerator: u64, denominator: u64
 {
     let word = put_text(output, at, b" (break ");
     let number = put_two(output, word, numerator, denominator);
-    put_byte(output, number, 41)
+    put_byte(output, number, b')')
 }
 
 // Writes entry i of a path as an item of the path line, after the breakpoint before it.
@@ -97,7 +97,7 @@ pub fn put_head(output: &mut [u8], at: usize, p: u64, q: u64, segments: u64, los
     let count = put_number(output, runs, segments);
     let second = put_text(output, count, b") (loss ");
     let value = put_number(output, second, loss);
-    put_byte(output, value, 41)
+    put_byte(output, value, b')')
 }
 
 // Writes a segment as an item of a price line.
@@ -107,9 +107,9 @@ fn put_segment(output: &mut [u8], at: usize, first: u64, last: u64, level: i16) 
 {
     let word = put_text(output, at, b" (run ");
     let ends = put_two(output, word, first, last);
-    let blank = put_byte(output, ends, 32);
+    let blank = put_byte(output, ends, b' ');
     let value = put_level(output, blank, level);
-    put_byte(output, value, 41)
+    put_byte(output, value, b')')
 }
 
 // The last position of segment i of so many: before the next start, and of the last one the end of the signal.

@@ -8,6 +8,9 @@ ghost use lib.ListN.{length, drop};
 ghost use Rattle.text.specs.Notes.{closes, begins, isNote};
 ghost use Rattle.text.specs.Inner.{resumed, Past};
 
+// The most brackets that may be open at a time in a note, its own among them.
+pub const MAX_DEPTH: u64 = 8;
+
 // Where skipping ends: at a place, or nowhere because the text is off the layout.
 pub enum Skip {
     At(usize),
@@ -23,10 +26,10 @@ fn skip_items(text: &[u8], at: usize, depth: u64) -> Skip
     let mut i = at;
     while i < text.len() {
         let b = text[i];
-        if b == 41 {
+        if b == b')' {
             return Skip::At(i + 1);
         }
-        if b == 40 {
+        if b == b'(' {
             match skip_form(text, i, depth) {
                 Skip::At(next) => {
                     i = next;
@@ -36,10 +39,10 @@ fn skip_items(text: &[u8], at: usize, depth: u64) -> Skip
                 }
             }
         } else {
-            if b < 32 {
+            if b < b' ' {
                 return Skip::Off;
             }
-            if 126 < b {
+            if b'~' < b {
                 return Skip::Off;
             }
             i += 1;
@@ -70,10 +73,10 @@ fn begins_note(line: &[u8]) -> bool
     if !crate::words::same(&line[..5], b"(note") {
         return false;
     }
-    if line[5] == 32 {
+    if line[5] == b' ' {
         return true;
     }
-    line[5] == 41
+    line[5] == b')'
 }
 
 // Whether a line is a note and nothing else.
@@ -83,7 +86,7 @@ pub fn is_note(line: &[u8]) -> bool
     if !begins_note(line) {
         return false;
     }
-    match skip_form(line, 0, 8) {
+    match skip_form(line, 0, MAX_DEPTH) {
         Skip::At(next) => next == line.len(),
         Skip::Off => false,
     }

@@ -33,7 +33,7 @@ pub fn put_number(output: &mut [u8], at: usize, n: u64) -> usize
     requires { ⌜ at + length (digits n) ≤ length (now output) ⌝ }
     ensures { λ r. ⌜ Put (digits n) at (now (output .entry)) (now (output .exit)) r ⌝ }
 {
-    let digit = 48 + (n % 10) as u8;
+    let digit = b'0' + (n % 10) as u8;
     if n < 10 {
         return put_byte(output, at, digit);
     }
@@ -48,7 +48,7 @@ pub fn put_level(output: &mut [u8], at: usize, level: i16) -> usize
 {
     let raised = segment::raise(level) as u64;
     if raised < 32768 {
-        let sign = put_byte(output, at, 45);
+        let sign = put_byte(output, at, b'-');
         return put_number(output, sign, 32768 - raised);
     }
     put_number(output, at, raised - 32768)
@@ -60,7 +60,7 @@ pub fn put_two(output: &mut [u8], at: usize, a: u64, b: u64) -> usize
     ensures { λ r. ⌜ Put (twoText a b) at (now (output .entry)) (now (output .exit)) r ⌝ }
 {
     let first = put_number(output, at, a);
-    let blank = put_byte(output, first, 32);
+    let blank = put_byte(output, first, b' ');
     put_number(output, blank, b)
 }
 

@@ -6,6 +6,9 @@ ghost use lib.ListN.{length};
 ghost use Rattle.text.specs.Text.{isShaped, same as sameText};
 ghost use Rattle.text.specs.Inner.{Found, figureRead, positiveRead, negativeRead, sampleRead};
 
+// The most digits of a figure.
+pub const MAX_DIGITS: usize = 15;
+
 // What a word is as a figure: its value, or off the layout.
 pub enum Figure {
     Value(u64),
@@ -58,13 +61,13 @@ fn figure_shaped(word: &[u8]) -> bool
     if n < 1 {
         return false;
     }
-    if 15 < n {
+    if MAX_DIGITS < n {
         return false;
     }
     if n == 1 {
         return true;
     }
-    word[0] != 48
+    word[0] != b'0'
 }
 
 // A word as a figure.
@@ -78,13 +81,13 @@ pub fn read_figure(word: &[u8]) -> Figure
     let mut i = 0;
     while i < word.len() {
         let b = word[i];
-        if b < 48 {
+        if b < b'0' {
             return Figure::Off;
         }
-        if 57 < b {
+        if b'9' < b {
             return Figure::Off;
         }
-        value = value * 10 + (b - 48) as u64;
+        value = value * 10 + (b - b'0') as u64;
         i += 1;
     }
     Figure::Value(value)
@@ -120,7 +123,7 @@ pub fn read_sample(word: &[u8]) -> Sample
     if word.len() < 1 {
         return Sample::Off;
     }
-    if word[0] == 45 {
+    if word[0] == b'-' {
         match read_figure(&word[1..]) {
             Figure::Value(v) => negative(v),
             Figure::Off => Sample::Off,
