@@ -1,6 +1,6 @@
-// The report: forms in text in, a path line and price lines in text out. A report's input is lines, each ended by byte 10; each
-// line is one form. A record form gives the signal, a limit form the limit of segments, a price form a penalty; notes are passed
-// over. (A signal is 01's record, a penalty 01's price; the words inside the text stay as 01 has them.)
+// The report: forms in text in, a path line and price lines in text out. The input is lines, each ended by byte 10, and each line
+// is one form. A record form gives the signal, a limit form the most segments, a price form a penalty; notes are passed over. The
+// texts keep the trade's words.
 
 ghost use mathlib.Core.Path.{_≡_};
 ghost use mathlib.Core.Bool.{true};
@@ -10,10 +10,10 @@ ghost use lib.ListN.{length};
 ghost use Rattle.select.specs.Penalty.{validPenalty};
 ghost use Rattle.signal.specs.Signal.{sizeCount, signalPath};
 ghost use Rattle.signal.specs.SignalPath.{pathBuffers};
-ghost use Rattle.report.specs.Lines.{pathLine};
-ghost use Rattle.report.specs.Report.{State, inputLen, outputLen, reportOutcome, reportOf};
 ghost use Rattle.text.specs.Inner.{Put};
-ghost use Rattle.report.specs.Inner.{PutShort, Answering, Printable, lineLen, lineAt, answerAt, reportAt};
+ghost use Rattle.report.specs.Lines.{pathLine};
+ghost use Rattle.report.specs.Report.{State, inputLen, outputLen, reportPath, reportOutcome, reportOf};
+ghost use Rattle.report.specs.Inner.{PutShort, Answering, Printable, lineLen, answersFit, lineAt, answerAt, reportAt};
 
 mod forms;
 mod lines;
@@ -22,20 +22,20 @@ use forms::NextPenalty;
 use forms::find_limit;
 use forms::find_signal;
 use forms::next_penalty;
-use lines::put_path;
-use lines::put_head;
-use lines::put_refusal;
-use lines::put_segments;
-use text::print::put_text;
 use least::MAX_SEGMENTS;
 use least::SCRATCH_LEN;
+use lines::put_head;
+use lines::put_path;
+use lines::put_refusal;
+use lines::put_segments;
 use signal::make_path;
 use signal::segment_at;
+use text::print::put_text;
 
 // The longest input.
 pub const INPUT_LEN: usize = 16384;
 
-// The length that an output buffer needs: 75 bytes for each byte of the longest input, and the path line with a refusal.
+// The length that an output buffer needs: 75 bytes for each byte of the longest input, and 4,096 for the path line and a refusal.
 pub const OUTPUT_LEN: usize = 1232896;
 
 // The answer of a report: the refusal, 0 where it is accepted, and the length of the text in the output buffer.
@@ -58,9 +58,14 @@ fn put_line(
     output: &mut [u8],
     at: usize,
 ) -> usize
-    requires { ⌜ Answering (now samples) count (pathBuffers (now «path_sizes») (now «path_losses») (now scratch)) entries ⌝ }
+    requires { ⌜ Answering
+        (now samples) count
+        (pathBuffers (now «path_sizes») (now «path_losses») (now scratch))
+        entries ⌝ }
     requires { ⌜ (validPenalty p q ≡ true) × (at + lineLen ≤ length (now output)) ⌝ }
-    ensures { λ r. ⌜ PutShort lineLen (lineAt (now (samples .entry)) (signalPath (now (samples .entry)) count) p q) at (now (output .entry)) (now (output .exit)) r ⌝ }
+    ensures { λ r. ⌜ PutShort lineLen
+        (lineAt (now (samples .entry)) (signalPath (now (samples .entry)) count) p q)
+        at (now (output .entry)) (now (output .exit)) r ⌝ }
 {
     let mut starts = [0u16; MAX_SEGMENTS];
     let mut levels = [0i16; MAX_SEGMENTS];
@@ -95,9 +100,14 @@ fn put_answer(
     output: &mut [u8],
     at: usize,
 ) -> usize
-    requires { ⌜ Answering (now samples) count (pathBuffers (now «path_sizes») (now «path_losses») (now scratch)) entries ⌝ }
+    requires { ⌜ Answering
+        (now samples) count
+        (pathBuffers (now «path_sizes») (now «path_losses») (now scratch))
+        entries ⌝ }
     requires { ⌜ at + lineLen ≤ length (now output) ⌝ }
-    ensures { λ r. ⌜ PutShort lineLen (answerAt (now (samples .entry)) count p q) at (now (output .entry)) (now (output .exit)) r ⌝ }
+    ensures { λ r. ⌜ PutShort lineLen
+        (answerAt (now (samples .entry)) count p q)
+        at (now (output .entry)) (now (output .exit)) r ⌝ }
 {
     if !select::valid_penalty(p, q) {
         return put_refusal(output, at, 4);
@@ -130,9 +140,15 @@ fn put_answers(
     output: &mut [u8],
     at: usize,
 ) -> usize
-    requires { ⌜ Answering (now samples) count (pathBuffers (now «path_sizes») (now «path_losses») (now scratch)) entries ⌝ }
-    requires { ⌜ (length (now input) ≤ inputLen) × ((from ≤ length (now input)) × ((at ≤ 2048 + 75 * from) × (outputLen ≤ length (now output)))) ⌝ }
-    ensures { λ r. ⌜ ((limit : ℕ) → sizeCount (now (samples .entry)) limit ≡ count → Put (reportAt (State.limited (now (samples .entry)) limit) (now (input .entry)) from) at (now (output .entry)) (now (output .exit)) r) ⌝ }
+    requires { ⌜ Answering
+        (now samples) count
+        (pathBuffers (now «path_sizes») (now «path_losses») (now scratch))
+        entries ⌝ }
+    requires { ⌜ (length (now input) ≤ inputLen)
+        × ((from ≤ length (now input)) × ((at ≤ answersFit from) × (outputLen ≤ length (now output)))) ⌝ }
+    ensures { λ r. ⌜ ((limit : ℕ) → sizeCount (now (samples .entry)) limit ≡ count
+        → Put (reportAt (State.limited (now (samples .entry)) limit) (now (input .entry)) from)
+        at (now (output .entry)) (now (output .exit)) r) ⌝ }
 {
     let mut line = from;
     let mut length = at;
@@ -172,7 +188,10 @@ fn put_signal(
     output: &mut [u8],
 ) -> usize
     requires { ⌜ Printable (now samples) «max_segments» (now input) from (length (now output)) ⌝ }
-    ensures { λ r. ⌜ Put (pathLine (signalPath (now (samples .entry)) (sizeCount (now (samples .entry)) «max_segments»)) ++ reportAt (State.limited (now (samples .entry)) «max_segments») (now (input .entry)) from) 0 (now (output .entry)) (now (output .exit)) r ⌝ }
+    ensures { λ r. ⌜ Put
+        (pathLine (reportPath (now (samples .entry)) «max_segments»)
+        ++ reportAt (State.limited (now (samples .entry)) «max_segments») (now (input .entry)) from)
+        0 (now (output .entry)) (now (output .exit)) r ⌝ }
 {
     let mut path_sizes = [0u64; MAX_SEGMENTS];
     let mut path_losses = [0u64; MAX_SEGMENTS];
@@ -203,7 +222,9 @@ fn put_signal(
 // Writes the report of an input that is short enough. Returns its length.
 fn put_report(input: &[u8], output: &mut [u8]) -> usize
     requires { ⌜ (length (now input) ≤ inputLen) × (outputLen ≤ length (now output)) ⌝ }
-    ensures { λ r. ⌜ Put (reportAt State.start (now (input .entry)) 0) 0 (now (output .entry)) (now (output .exit)) r ⌝ }
+    ensures { λ r. ⌜ Put
+        (reportAt State.start (now (input .entry)) 0)
+        0 (now (output .entry)) (now (output .exit)) r ⌝ }
 {
     let mut samples = [0i16; INPUT_LEN];
     let signal = find_signal(input, &mut samples);

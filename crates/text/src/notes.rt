@@ -1,4 +1,5 @@
-// Notes. Skipping one form and skipping the items inside it call each other; the depth and the bytes left fall.
+// Notes. Skipping one form and skipping the items inside it call each other. The depth that is left falls from one form to a form
+// inside it, and the bytes that are left fall from item to item.
 
 ghost use mathlib.Core.Path.{_≡_};
 ghost use mathlib.Core.Bool.{_&&_};
@@ -17,10 +18,12 @@ pub enum Skip {
     Off,
 }
 
-// The place after the items from at on and the bracket that closes them. So many more brackets may be open at a time.
+// The place after the items from `at` on and the bracket that closes them. As many more brackets as `depth` says may be open at a
+// time.
 fn skip_items(text: &[u8], at: usize, depth: u64) -> Skip
     requires { ⌜ (depth ≤ 7) × (at ≤ length (now text)) ⌝ }
-    ensures means { λ r. ⌜ closes (suc (7 - depth)) (drop at (now (text .entry))) ≡ resumed (7 - depth) (now (text .entry)) r ⌝ }
+    ensures means { λ r. ⌜ closes (suc (7 - depth)) (drop at (now (text .entry)))
+        ≡ resumed (7 - depth) (now (text .entry)) r ⌝ }
     ensures past { λ r. ⌜ Past at (now (text .entry)) r ⌝ }
 {
     let mut i = at;
@@ -51,10 +54,11 @@ fn skip_items(text: &[u8], at: usize, depth: u64) -> Skip
     Skip::Off
 }
 
-// The place after the form whose opening bracket is at at.
+// The place after the form whose opening bracket stands at `at`.
 fn skip_form(text: &[u8], at: usize, depth: u64) -> Skip
     requires { ⌜ (depth ≤ 8) × (at < length (now text)) ⌝ }
-    ensures means { λ r. ⌜ (ltb (8 - depth) 8 && closes (suc (8 - depth)) (drop (at + 1) (now (text .entry)))) ≡ resumed (8 - depth) (now (text .entry)) r ⌝ }
+    ensures means { λ r. ⌜ (ltb (8 - depth) 8 && closes (suc (8 - depth)) (drop (at + 1) (now (text .entry))))
+        ≡ resumed (8 - depth) (now (text .entry)) r ⌝ }
     ensures past { λ r. ⌜ Past at (now (text .entry)) r ⌝ }
 {
     if depth == 0 {

@@ -63,4 +63,3 @@ pub fn put_two(output: &mut [u8], at: usize, a: u64, b: u64) -> usize
     let blank = put_byte(output, first, b' ');
     put_number(output, blank, b)
 }
-
