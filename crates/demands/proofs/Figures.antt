@@ -13,8 +13,13 @@ use Rattle.least.specs.Segmentation.{covered, lossOf, perPiece, lossWithLast, l
 use Rattle.signal.specs.Signal.{signalPath}
 use Rattle.signal.specs.SignalPath.{signalPathOf}
 use Rattle.signal.specs.Split.{splitOf}
+use Rattle.text.specs.Text.{bytes, same, ontoFirst, partsOf, allDigits, isFigure, valueFrom, isSample, sampleOf, digitsWithin, digits, wholeDigits, twoText}
+use Rattle.text.specs.Notes.{closes, begins, isNote}
+use Rattle.report.specs.Forms.{allSamples, signalForm, limitForm, penaltyForm, wordsForm, formOf}
+use Rattle.report.specs.Lines.{refusalLine, modelText, breakpointText, entriesText, pathLine, segmentText, segmentsText, headText, penaltyLine}
+use Rattle.report.specs.Report.{signalTurn, limitTurn, penaltyTurn, turnOf, ended, printed, lastPart, reportFrom, reportText}
 use Rattle.demands.specs.Figures.{FiguresRight}
 
 pub figures : FiguresRight
-unfolding pathOf valuesOf holds kept testsMade pathBreakpoints refusalOf byChecks ordered validPath sizeAbove lossBelow appendOf built builtTests listChecks buildOf selectedFrom selectOf breakpointsOf level square total lossAt segmentLoss earliestLeast covered lossOf perPiece lossWithLast lastStart least chosen signalPath signalPathOf splitOf
+unfolding pathOf valuesOf holds kept testsMade pathBreakpoints refusalOf byChecks ordered validPath sizeAbove lossBelow appendOf built builtTests listChecks buildOf selectedFrom selectOf breakpointsOf level square total lossAt segmentLoss earliestLeast covered lossOf perPiece lossWithLast lastStart least chosen signalPath signalPathOf splitOf bytes same ontoFirst partsOf allDigits isFigure valueFrom isSample sampleOf digitsWithin digits wholeDigits twoText closes begins isNote allSamples signalForm limitForm penaltyForm wordsForm formOf refusalLine modelText breakpointText entriesText pathLine segmentText segmentsText headText penaltyLine signalTurn limitTurn penaltyTurn turnOf ended printed lastPart reportFrom reportText
 figures = refl

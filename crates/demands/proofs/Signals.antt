@@ -153,7 +153,8 @@ module _ (xs : List ℤ) (limit p q : ℕ) (b : SplitBuffers) (bits : Samples16 
         omega (arith, best .cheapest other listed, costs, ap (λ (m : ℕ). q * m) loss-given, ap (λ (m : ℕ). p * m) (here .size)) in
         omega (arith, best .smallest other listed same, here .size)
 
-  gives : GivesCheapest xs limit p q (splitAt xs (signalPath xs (sizeCount xs limit)) (sizeCount xs limit) p q b) (segmentation xs given)
+  -- The split gives the cheapest segmentation.
+  pub gives : GivesCheapest xs limit p q (splitAt xs (signalPath xs (sizeCount xs limit)) (sizeCount xs limit) p q b) (segmentation xs given)
   gives =
       let reached = least-reached xs (given - 1) enough in
       let starts-long : length (startsOf (segmentation xs given)) ≡ given = perPiece-count pieceStart xs (given - 1) (length xs) ∙ one-more in

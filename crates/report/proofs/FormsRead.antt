@@ -5,7 +5,7 @@ use mathlib.Core.Bool.{Bool, true, false, cond, _&&_, and-eq-true-iff}
 use mathlib.Core.List.{List, [], _∷_, _++_, map, append-nil, append-assoc}
 use Prim.Native.Nat.{ℕ, zero, suc, _-_, _^_, _≤_, _<_}
 use native.Mathlib.Omega.{arith}
-use lib.Dec.{leb, eqb}
+use lib.Dec.{leb, eqb, lit<}
 use lib.IntN.{ℤ}
 use lib.ListN.{length, getD, take, length-append}
 use lib.Seq.{take-all, take-suc, take-at, getD-at}
@@ -15,7 +15,7 @@ use Rattle.segment.proofs.Bounds.{sample-fits, fits-sample}
 use Rattle.text.specs.Text.{maxDigits, bytes, same, partsOf, isFigure, valueOf, isSample, sampleOf, digits, wholeDigits, twoText}
 use Rattle.text.specs.Notes.{begins, isNote}
 use Rattle.text.proofs.Inverse.{value-digits, figure-digits, digits-figure, figure-low, sample-printed, sample-whole, value-whole}
-use Rattle.text.proofs.Parts.{same-eq, marked, parts-marked, without, parts-one, parts-more, digits-no-blank, whole-no-blank}
+use Rattle.text.proofs.Parts.{same-eq, marked, parts-marked, without, parts-one, parts-more, digits-without, whole-without}
 use Rattle.report.specs.Forms.{Form, signal, limit, penalty, note, off, samplesText, formText, allSamples}
 use Rattle.report.specs.Forms.{signalForm, limitForm, penaltyForm, wordsForm, inBrackets, inside, formOf}
 use Rattle.report.specs.Claims.{Written, ReadsWritten, WrittenRead, NotesRead}
@@ -165,7 +165,7 @@ samples-words : (w : List ℕ) (xs : List ℤ) → without 32 w ≡ true → par
 unfolding samplesText bytes
 samples-words w [] h = rw (append-nil w) (parts-one 32 w h)
 samples-words w (x ∷ xs) h =
-    parts-more 32 w (wholeDigits x ++ samplesText xs) h ∙ rw (samples-words (wholeDigits x) xs (whole-no-blank x))
+    parts-more 32 w (wholeDigits x ++ samplesText xs) h ∙ rw (samples-words (wholeDigits x) xs (whole-without 32 x (lit< tt)))
 
 -- Printed samples are samples, with the values that they had.
 samples-written : (xs : List ℤ) → Samples16 xs
@@ -188,7 +188,7 @@ limit-written k h =
     form-words (bytes "limit " ++ digits k) refl
     ∙ rw (
       parts-more 32 (bytes "limit") (digits k) refl,
-      parts-one 32 (digits k) (digits-no-blank k),
+      parts-one 32 (digits k) (digits-without 32 k (lit< tt)),
       figure-digits k h,
       value-digits k,
     )
@@ -200,8 +200,8 @@ penalty-written p q h k =
     ∙ rw (
       parts-more 32 (bytes "price") (twoText p q) refl,
       append-assoc (digits p) (32 ∷ []) (digits q),
-      parts-more 32 (digits p) (digits q) (digits-no-blank p),
-      parts-one 32 (digits q) (digits-no-blank q),
+      parts-more 32 (digits p) (digits q) (digits-without 32 p (lit< tt)),
+      parts-one 32 (digits q) (digits-without 32 q (lit< tt)),
       figure-digits p h,
       figure-digits q k,
       value-digits p,

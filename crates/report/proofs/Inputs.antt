@@ -15,7 +15,8 @@ use Rattle.text.specs.Inner.{Found}
 use Rattle.report.specs.Inner.{reportAt, lineOf}
 use Rattle.text.proofs.Searches.{parts-found, rest-more, rest-none, parts-some}
 
-report-cons : (s : State) (line : List ℕ) (ps : List (List ℕ)) → 0 < length ps → reportFrom s (line ∷ ps) ≡ printed (turnOf s (formOf line)) (λ t. reportFrom t ps)
+-- A line and the parts after it.
+pub report-cons : (s : State) (line : List ℕ) (ps : List (List ℕ)) → 0 < length ps → reportFrom s (line ∷ ps) ≡ printed (turnOf s (formOf line)) (λ t. reportFrom t ps)
 unfolding reportFrom
 report-cons s line [] h = absurd (omega arith)
 report-cons s line (p ∷ ps) h = refl
