@@ -9,7 +9,7 @@ use mir.Facts.{toZ-ofZ}
 use Rattle.text.specs.Text.{sampleOf}
 use Rattle.report.specs.Forms.{allSamples}
 use Rattle.text.specs.Inner.{rest}
-use Rattle.text.proofs.Readings.{sample-known, sample-none, sample-fits}
+use Rattle.text.proofs.Readings.{sample-known, sample-none, sample-in-range}
 use Rattle.report.proofs.Layouts.{signal-bad, signal-good, samples-done, samples-on, samples-off, values-on, value-stored}
 use Rattle.report.proofs.forms.read_samples.Statement.{statement}
 use Rattle.report.proofs.forms.read_samples.Tie as tie
@@ -20,55 +20,42 @@ Inv-loop text from samples₀ at₀ count₀ samples at count = (at ≤ length t
 abbrev μ-loop : tie.MeasureT-loop
 μ-loop text from samples₀ at₀ count₀ samples at count = length text - at
 
--- src/forms.rt:94:5
 loop-holds : tie.Need-loop-holds Inv-loop μ-loop
 loop-holds c = (omega arith, omega arith, refl, refl, refl)
 
--- src/forms.rt:95:21
 add-start : tie.Need-add-start Inv-loop μ-loop
 add-start c = omega arith
 
--- src/forms.rt:96:13
 find-requires : tie.Need-find-requires Inv-loop μ-loop
 find-requires c κs = omega arith
 
--- src/forms.rt:97:27
 sub-read-sample : tie.Need-sub-read-sample Inv-loop μ-loop
 sub-read-sample c = c .find .ensures .from
 
--- src/forms.rt:97:27
 part-read-sample-start : tie.Need-part-read-sample-start Inv-loop μ-loop
 part-read-sample-start c = c .find .ensures .from
 
--- src/forms.rt:97:27
 part-read-sample-end : tie.Need-part-read-sample-end Inv-loop μ-loop
 part-read-sample-end c = c .find .ensures .within
 
--- src/forms.rt:97:15
 read-sample-requires : tie.Need-read-sample-requires Inv-loop μ-loop
 read-sample-requires c κs = tt
 
--- src/forms.rt:98:27
 enum-known-x : tie.Need-enum-known-x Inv-loop μ-loop
 enum-known-x c = search needs
 
--- src/forms.rt:99:17
 mul-x : tie.Need-mul-x Inv-loop μ-loop
 mul-x c = omega arith
 
--- src/forms.rt:99:17
 slice-set-from-x : tie.Need-slice-set-from-x Inv-loop μ-loop
 slice-set-from-x c = omega (arith, c .before .before .before .before .before .before .before .before .before .pre)
 
--- src/forms.rt:100:17
 add-count : tie.Need-add-count Inv-loop μ-loop
 add-count c = omega arith
 
--- src/forms.rt:94:5
 loop-less : tie.Need-loop-less Inv-loop μ-loop
 loop-less c = omega (arith, c .before .before .before .before .before .find .ensures .from, c .before .before .before .before .before .find .ensures .within)
 
--- src/forms.rt:94:5
 loop-again : tie.Need-loop-again Inv-loop μ-loop
 loop-again c =
     let st = c .before .before .before .before .before .before .before .before .before in
@@ -79,18 +66,15 @@ loop-again c =
     let x = c .before .x .given .0 .0 in
     let k = sample-known _ (r .result) x (r .ensures) (c .before .x .given .1) in
     let v : map sampleOf (rest 32 (drop (lp .at) text)) ≡ x ∷ map sampleOf (rest 32 (drop (f .result) text)) = values-on text (lp .at) (f .result) (omega arith) (f .ensures) ∙ rw (k .1) refl in
-    let fits = rw (k .1) at (sample-fits _ (k .0)) in
+    let fits = rw (k .1) at (sample-in-range _ (k .0)) in
     (f .ensures .within, omega (arith, f .ensures .from), simp length-set (lp .inv .2), lp .inv .3 ∙ samples-on text (lp .at) (f .result) (omega arith) (f .ensures) (k .0), rw (toZ-ofZ fits) (lp .inv .4 ∙ ap (λ (m : List ℤ). take (lp .count) (lp .samples) ++ m) v ∙ value-stored (lp .samples) (lp .count) x _ (omega (arith, st .pre))))
 
--- src/forms.rt:104:17
 enum-told : tie.Need-enum-told Inv-loop μ-loop
 enum-told c = search needs
 
--- src/forms.rt:104:17
 same-length : tie.Need-same-length Inv-loop μ-loop
 same-length c = c .before .before .before .before .before .before .loop .inv .2
 
--- src/forms.rt:104:17
 returns : tie.Need-returns Inv-loop μ-loop
 returns c =
     let text = c .before .before .before .before .before .before .before .before .args .text .now in
@@ -99,11 +83,9 @@ returns c =
     let r = c .before .before .read-sample in
     signal-bad _ (lp .inv .3 ∙ samples-off text (lp .at) (f .result) (omega arith) (f .ensures) (sample-none _ (r .result) (r .ensures) (c .enum-told .given .1)))
 
--- src/forms.rt:88:1
 same-length-2 : tie.Need-same-length-2 Inv-loop μ-loop
 same-length-2 c = c .before .loop .inv .2
 
--- src/forms.rt:88:1
 returns-2 : tie.Need-returns-2 Inv-loop μ-loop
 returns-2 c =
     let text = c .before .before .before .args .text .now in

@@ -1,3 +1,5 @@
+-- `text::notes::begins_note` tests the length, then the first five bytes, then the sixth: each answer is what `begins` says where
+-- the tests before it are known.
 use borrow.Author.Needs.{needs}
 use mathlib.Core.Path.{refl, sym, _∙_}
 use native.Mathlib.Omega.{arith}
@@ -9,43 +11,34 @@ use Rattle.text.proofs.Readings.{begins-short}
 use Rattle.text.proofs.notes.begins_note.Statement.{statement}
 use Rattle.text.proofs.notes.begins_note.Tie as tie
 
--- src/notes.rt:68:9
 returns : tie.Need-returns
 returns c = sym (begins-short _ (omega arith))
 
--- src/notes.rt:70:28
 slice-aggregate-same : tie.Need-slice-aggregate-same
 slice-aggregate-same c = sym (length-take-le 5 (c .before .before .before .args .line .now) (omega arith))
 
--- src/notes.rt:70:40
 slice-aggregate-same-2 : tie.Need-slice-aggregate-same-2
 slice-aggregate-same-2 c = search needs
 
--- src/notes.rt:70:9
 same-requires : tie.Need-same-requires
 same-requires c κs = search needs
 
--- src/notes.rt:71:9
 returns-2 : tie.Need-returns-2
 unfolding begins bytes
 returns-2 c = rw (sym (c .before .same .ensures) ∙ not-true _ (c .if2 .taken)) refl
 
--- src/notes.rt:73:8
 shared-slice-read-if3 : tie.Need-shared-slice-read-if3
 shared-slice-read-if3 c = search needs
 
--- src/notes.rt:74:9
 returns-3 : tie.Need-returns-3
 unfolding begins bytes
 returns-3 c =
     let s = sym (c .before .before .before .same .ensures) ∙ not-false _ (c .before .before .if2 .left) in
     rw (s, eq-eqb _ 32 (c .if3 .taken)) refl
 
--- src/notes.rt:76:5
 shared-slice-read-result : tie.Need-shared-slice-read-result
 shared-slice-read-result c = search needs
 
--- src/notes.rt:64:1
 returns-4 : tie.Need-returns-4
 unfolding begins bytes
 returns-4 c =

@@ -1,3 +1,4 @@
+-- `text::print::put_number` calls itself with a tenth of the number, which is the measure, and then puts the last digit.
 use mathlib.Core.Path.{sym}
 use Prim.Native.Nat.{ℕ, _<_}
 use native.Mathlib.Omega.{arith}
@@ -24,7 +25,6 @@ abbrev put-number-below : ℕ → In 1 put-number-kinds.ps
 put-number-below t =
     and 1 put-number-kinds.ps (falls 1 put-number-kinds.ps _<_ μ-put-number t) put-number.Pre
 
--- src/print.rt:39:22
 put-number-cast-digit : (t : ℕ) → put-number-lts.Need-cast-digit (
   put-byte-reads.Asked,
   put-byte-reads.Learnt,
@@ -33,7 +33,6 @@ put-number-cast-digit : (t : ℕ) → put-number-lts.Need-cast-digit (
 ) (put-number-at t) put-number.Post
 put-number-cast-digit t c = search needs
 
--- src/print.rt:39:17
 put-number-add-digit : (t : ℕ) → put-number-lts.Need-add-digit (
   put-byte-reads.Asked,
   put-byte-reads.Learnt,
@@ -42,7 +41,6 @@ put-number-add-digit : (t : ℕ) → put-number-lts.Need-add-digit (
 ) (put-number-at t) put-number.Post
 put-number-add-digit t c = search needs
 
--- src/print.rt:41:9
 put-number-put-byte-requires : (t : ℕ) → put-number-lts.Need-put-byte-requires (
   put-byte-reads.Asked,
   put-byte-reads.Learnt,
@@ -50,10 +48,9 @@ put-number-put-byte-requires : (t : ℕ) → put-number-lts.Need-put-byte-requir
   put-number.Post,
 ) (put-number-at t) put-number.Post
 put-number-put-byte-requires t c κs =
-    let a = c .before .before .before .args in
-    omega (arith, simp (digits-one (a .n) (c .before .if1 .taken)) at (c .before .before .before .pre .1))
+    let start = c .before .before .before in
+    omega (arith, simp (digits-one (start .args .n) (c .before .if1 .taken)) at (start .pre .1))
 
--- src/print.rt:41:9
 put-number-same-length : (t : ℕ) → put-number-lts.Need-same-length (
   put-byte-reads.Asked,
   put-byte-reads.Learnt,
@@ -62,7 +59,6 @@ put-number-same-length : (t : ℕ) → put-number-lts.Need-same-length (
 ) (put-number-at t) put-number.Post
 put-number-same-length t c = search needs
 
--- src/print.rt:41:9
 put-number-returns : (t : ℕ) → put-number-lts.Need-returns (
   put-byte-reads.Asked,
   put-byte-reads.Learnt,
@@ -70,28 +66,32 @@ put-number-returns : (t : ℕ) → put-number-lts.Need-returns (
   put-number.Post,
 ) (put-number-at t) put-number.Post
 put-number-returns t c =
-    let a = c .before .before .before .before .before .before .args in
-    put-as (sym (digits-one (a .n) (c .before .before .before .before .if1 .taken))) (c .before .before .put-byte .ensures)
+    let low = c .before .before .before .before in
+    let a = low .before .before .args in
+    put-as (sym (digits-one (a .n) (low .if1 .taken))) (c .before .before .put-byte .ensures)
 
--- src/print.rt:43:9
 put-number-put-number-requires : (t : ℕ) → put-number-lts.Need-put-number-requires (
   put-byte-reads.Asked,
   put-byte-reads.Learnt,
   put-number-below t,
   put-number.Post,
 ) (put-number-at t) put-number.Post
-put-number-put-number-requires t c κs = (omega (arith, c .before .if1 .left), omega (arith, digits-length (c .before .before .before .args .n) (c .before .if1 .left)))
+put-number-put-number-requires t c κs =
+    let start = c .before .before .before in
+    (omega (arith, c .before .if1 .left), omega (arith, digits-length (start .args .n) (c .before .if1 .left)))
 
--- src/print.rt:44:5
 put-number-put-byte-requires-2 : (t : ℕ) → put-number-lts.Need-put-byte-requires-2 (
   put-byte-reads.Asked,
   put-byte-reads.Learnt,
   put-number-below t,
   put-number.Post,
 ) (put-number-at t) put-number.Post
-put-number-put-byte-requires-2 t c κs = omega (arith, digits-length (c .before .before .before .before .before .before .before .args .n) (c .before .before .before .before .before .if1 .left), c .before .before .before .put-number .ensures .end-is, c .before .before .before .put-number .kept)
+put-number-put-byte-requires-2 t c κs =
+    let last = c .before .before .before in
+    let high = last .before .before in
+    let start = high .before .before in
+    omega (arith, digits-length (start .args .n) (high .if1 .left))
 
--- src/print.rt:35:1
 put-number-same-length-2 : (t : ℕ) → put-number-lts.Need-same-length-2 (
   put-byte-reads.Asked,
   put-byte-reads.Learnt,
@@ -100,7 +100,6 @@ put-number-same-length-2 : (t : ℕ) → put-number-lts.Need-same-length-2 (
 ) (put-number-at t) put-number.Post
 put-number-same-length-2 t c = search needs
 
--- src/print.rt:35:1
 put-number-returns-2 : (t : ℕ) → put-number-lts.Need-returns-2 (
   put-byte-reads.Asked,
   put-byte-reads.Learnt,
@@ -108,8 +107,10 @@ put-number-returns-2 : (t : ℕ) → put-number-lts.Need-returns-2 (
   put-number.Post,
 ) (put-number-at t) put-number.Post
 put-number-returns-2 t c =
-    let a = c .before .before .before .before .before .before .before .before .before .before .args in
-    put-as (sym (digits-more (a .n) (c .before .before .before .before .before .before .before .before .if1 .left))) (put-then (c .before .before .before .before .before .before .put-number .ensures) (c .before .before .put-byte2 .ensures))
+    let last = c .before .before .before .before .before .before in
+    let high = last .before .before in
+    let a = high .before .before .args in
+    put-as (sym (digits-more (a .n) (high .if1 .left))) (put-then (last .put-number .ensures) (c .before .before .put-byte2 .ensures))
 
 pub +put-number-spec : {M : Type 1} → statement M
 +put-number-spec = close μ-put-number λ t. put-number-lts.spec (

@@ -1,21 +1,18 @@
+-- `text::print::put_byte` stores its byte.
 use borrow.Author.Needs.{needs}
 use Rattle.text.proofs.Prints.{put-one}
 use Rattle.text.proofs.print.put_byte.Statement.{statement}
 use Rattle.text.proofs.print.put_byte.Tie as tie
 
--- src/print.rt:30:5
 slice-write-output : tie.Need-slice-write-output
 slice-write-output c = search needs
 
--- src/print.rt:31:5
 add-result : tie.Need-add-result
 add-result c = search needs
 
--- src/print.rt:26:1
 same-length : tie.Need-same-length
 same-length c = search needs
 
--- src/print.rt:26:1
 returns : tie.Need-returns
 returns c = put-one _ _ _ (search needs)
 

@@ -1,3 +1,4 @@
+-- `text::print::put_two` puts its three pieces one after the other; each fits because their lengths add up to the text's.
 use borrow.Author.Needs.{needs}
 use native.Mathlib.Omega.{arith}
 use Rattle.text.specs.Text.{bytes, twoText}
@@ -6,26 +7,33 @@ use Rattle.text.proofs.Texts.{two-length}
 use Rattle.text.proofs.print.put_two.Statement.{statement}
 use Rattle.text.proofs.print.put_two.Tie as tie
 
--- src/print.rt:74:9
 put-number-requires : tie.Need-put-number-requires
-put-number-requires c κs = omega (arith, two-length (c .before .before .args .a) (c .before .before .args .b), c .before .before .pre)
+put-number-requires c κs =
+    let start = c .before .before in
+    omega (arith, two-length (start .args .a) (start .args .b))
 
--- src/print.rt:75:9
 put-byte-requires : tie.Need-put-byte-requires
-put-byte-requires c κs = omega (arith, two-length (c .before .before .before .before .before .before .args .a) (c .before .before .before .before .before .before .args .b), c .before .before .before .before .before .before .pre, c .before .before .before .put-number .ensures .end-is, c .before .before .before .put-number .kept)
+put-byte-requires c κs =
+    let first = c .before .before .before in
+    let start = first .before .before .before in
+    omega (arith, two-length (start .args .a) (start .args .b))
 
--- src/print.rt:76:5
 put-number-requires-2 : tie.Need-put-number-requires-2
-put-number-requires-2 c κs = omega (arith, two-length (c .before .before .before .before .before .before .before .before .before .before .args .a) (c .before .before .before .before .before .before .before .before .before .before .args .b), c .before .before .before .before .before .before .before .before .before .before .pre, c .before .before .before .put-byte .ensures .end-is, c .before .before .before .before .before .before .before .put-number .ensures .end-is, c .before .before .before .put-byte .kept, c .before .before .before .before .before .before .before .put-number .kept)
+put-number-requires-2 c κs =
+    let blank = c .before .before .before in
+    let first = blank .before .before .before .before in
+    let start = first .before .before .before in
+    omega (arith, two-length (start .args .a) (start .args .b))
 
--- src/print.rt:70:1
 same-length : tie.Need-same-length
 same-length c = search needs
 
--- src/print.rt:70:1
 returns : tie.Need-returns
 unfolding bytes twoText
-returns c = put-then (put-then (c .before .before .before .before .before .before .before .before .before .before .put-number .ensures) (c .before .before .before .before .before .before .put-byte .ensures)) (c .before .before .put-number2 .ensures)
+returns c =
+    let blank = c .before .before .before .before .before .before in
+    let first = blank .before .before .before .before in
+    put-then (put-then (first .put-number .ensures) (blank .put-byte .ensures)) (c .before .before .put-number2 .ensures)
 
 pub put-two-spec : {M : Type 1} → statement M
 put-two-spec =

@@ -1,3 +1,4 @@
+-- `text::words::positive` takes a figure up to 32,767 as it is.
 use borrow.Author.Needs.{needs}
 use native.Mathlib.Omega.{arith}
 use mir.Syntax.{w16}
@@ -6,15 +7,12 @@ use borrow.Author.Tests.{le-leb, lt-leb}
 use Rattle.text.proofs.words.positive.Statement.{statement}
 use Rattle.text.proofs.words.positive.Tie as tie
 
--- src/words.rt:99:9
 returns : tie.Need-returns
 returns c = simp (lt-leb _ 32767 (c .if1 .taken))
 
--- src/words.rt:101:19
 cast-t3 : tie.Need-cast-t3
 cast-t3 c = search needs
 
--- src/words.rt:95:1
 returns-2 : tie.Need-returns-2
 returns-2 c = simp (le-leb _ 32767 (c .if1 .left), toZ-pos w16 {n = c .before .args .value} (omega arith))
 
