@@ -5,11 +5,10 @@ use mathlib.Core.Bool.{Bool, true, false, cond, _&&_, and-eq-true-iff}
 use mathlib.Core.List.{List, [], _∷_, _++_, map, append-nil, append-assoc}
 use Prim.Native.Nat.{ℕ, zero, suc, _-_, _^_, _≤_, _<_}
 use native.Mathlib.Omega.{arith}
-use lib.Dec.{leb, eqb}
 use lib.IntN.{ℤ}
 use lib.ListN.{length, getD, take, length-append}
 use lib.Seq.{take-all, take-suc, take-at, getD-at}
-use borrow.Author.Tests.{leb-true, le-leb, eqb-true}
+use borrow.Author.Tests.{le-leb}
 use Rattle.segment.specs.Segment.{Samples16}
 use Rattle.segment.proofs.Bounds.{sample-fits, fits-sample}
 use Rattle.text.specs.Text.{maxDigits, bytes, same, partsOf, isFigure, valueOf, isSample, sampleOf, digits, wholeDigits, twoText}
@@ -19,6 +18,7 @@ use Rattle.text.proofs.Parts.{same-eq, marked, parts-marked, without, parts-one
 use Rattle.report.specs.Forms.{Form, signal, limit, penalty, note, off, samplesText, formText, allSamples}
 use Rattle.report.specs.Forms.{signalForm, limitForm, penaltyForm, wordsForm, inBrackets, inside, formOf}
 use Rattle.report.specs.Claims.{Written, ReadsWritten, WrittenRead, NotesRead}
+use Rattle.report.proofs.Layouts.{brackets, form-inside}
 
 -- A text in brackets.
 abbrev bracketed : List ℕ → List ℕ
@@ -27,14 +27,10 @@ bracketed s = 40 ∷ (s ++ (41 ∷ []))
 -- A line in brackets is what stands between them in brackets.
 brackets-off : (line : List ℕ) → inBrackets line ≡ true → line ≡ bracketed (inside line)
 brackets-off line h =
-    let first = getD line 0 0 in
-    let last = getD line (length line - 1) 0 in
-    let p = and-eq-true-iff (leb 2 (length line) && eqb first 40) (eqb last 41) .0 h in
-    let q = and-eq-true-iff (leb 2 (length line)) (eqb first 40) .0 (p .0) in
-    by-line line (leb-true 2 (length line) (q .0)) (eqb-true first 40 (q .1)) (eqb-true last 41 (p .1))
+    let b = brackets line h in by-line line (b .long) (b .first) (b .last)
   where
-    ended : (b : ℕ) (s : List ℕ) → getD (b ∷ s) (length s) 0 ≡ 41 → b ∷ s ≡ take (length s) (b ∷ s) ++ (41 ∷ [])
-    ended b s e = sym (take-all (suc (length s)) (b ∷ s) (omega arith)) ∙ take-suc (b ∷ s) (length s) 0 (omega arith) ∙ rw e
+    last-apart : (b : ℕ) (s : List ℕ) → getD (b ∷ s) (length s) 0 ≡ 41 → b ∷ s ≡ take (length s) (b ∷ s) ++ (41 ∷ [])
+    last-apart b s e = sym (take-all (suc (length s)) (b ∷ s) (omega arith)) ∙ take-suc (b ∷ s) (length s) 0 (omega arith) ∙ rw e
 
     by-line : (l : List ℕ) → 2 ≤ length l → getD l 0 0 ≡ 40 → getD l (length l - 1) 0 ≡ 41 → l ≡ bracketed (inside l)
     by-line [] n e f = absurd (omega arith)
@@ -42,7 +38,7 @@ brackets-off line h =
     by-line (a ∷ b ∷ s) n e f =
         let last : length (a ∷ b ∷ s) - 1 ≡ suc (length s) = omega arith in
         let between : length (a ∷ b ∷ s) - 2 ≡ length s = omega arith in
-        rw (e, between) (ap (λ (z : List ℕ). 40 ∷ z) (ended b s (rw last at f)))
+        rw (e, between) (ap (λ (z : List ℕ). 40 ∷ z) (last-apart b s (rw last at f)))
 
 module _ (s : List ℕ) where
   -- A text in brackets is a line in brackets.
@@ -157,8 +153,7 @@ reads-written line f e n o = by-form f (subst (λ (g : Form). Read line g) e (fo
 
 -- A text in brackets that is no note is read by its words.
 form-words : (s : List ℕ) → isNote (bracketed s) ≡ false → formOf (bracketed s) ≡ wordsForm (partsOf 32 s)
-unfolding formOf
-form-words s n = rw (n, brackets-on s, inside-on s)
+form-words s n = rw (inside-on s) at (form-inside (bracketed s) n (brackets-on s))
 
 -- The words of a word and samples after it.
 samples-words : (w : List ℕ) (xs : List ℤ) → without 32 w ≡ true → partsOf 32 (w ++ samplesText xs) ≡ w ∷ map wholeDigits xs

@@ -1,4 +1,4 @@
--- What is found on the next line: a signal, a limit or a penalty, and its refusals.
+-- What is found on the next line, a signal, a limit or a penalty, and what is printed then.
 use mathlib.Core.Path.{_≡_, refl, _∙_}
 use mathlib.Core.Bool.{Bool, true, false, _&&_}
 use mathlib.Core.List.{List, [], _∷_}
@@ -13,12 +13,14 @@ use Rattle.path.specs.Refusal.{check, byChecks, refusalOf}
 use Rattle.signal.specs.Signal.{sizeCount, signalPath}
 use Rattle.report.specs.Forms.{signal, limit, penalty, formOf}
 use Rattle.report.specs.Lines.{refusalLine, pathLine}
-use Rattle.report.specs.Report.{State, start, recorded, limited, Turn, goes, stops, signalTurn, limitTurn, penaltyTurn, turnOf, printed, ended}
-use Rattle.report.specs.Inner.{reportAt, lineOf, NextLine, LineRead, SignalFound, LimitFound, PenaltyAhead, refusedWith, judgedWith, judgedSignal, judgedLimit}
+use Rattle.report.specs.Report.{State, start, recorded, limited, Turn, goes, stops}
+use Rattle.report.specs.Report.{signalTurn, limitTurn, penaltyTurn, turnOf, printed, ended}
+use Rattle.report.specs.Inner.{reportAt, lineOf, NextLine, LineRead, SignalFound, LimitFound, PenaltyAhead}
+use Rattle.report.specs.Inner.{refusedWith, judgedWith, judgedSignal, judgedLimit}
 use Rattle.report.specs.declared.forms.Line.{Line}
 use Rattle.report.specs.declared.forms.Line.the-variants as line
 
--- the next line by its answer
+-- What the answer on the next line says.
 module _ (input : List ℕ) (at : ℕ) (r : Line) (h : LineRead input at r) where
   pub line-at : (from to : ℕ) → r ≡ line.At from to → NextLine input at from to
   line-at from to e = rw e at h
@@ -29,12 +31,12 @@ module _ (input : List ℕ) (at : ℕ) (r : Line) (h : LineRead input at r) wher
   pub line-none : r ≡ line.End → (s : State) → reportAt s input at ≡ ended s
   line-none e = rw e at h
 
--- a turn that stops
+-- A turn that stops prints its refusal.
 stopped : (turn : Turn) (n : ℕ) (k : State → List ℕ) → turn ≡ stops n → printed turn k ≡ refusalLine n
 unfolding printed
 stopped turn n k e = rw e refl
 
--- nothing but a refusal
+-- Nothing is found, and there is nothing but a refusal.
 pub signal-refused : (input : List ℕ) (buffer : List ℤ) → reportAt start input 0 ≡ refusalLine 11 → SignalFound input buffer (refusedWith 11)
 signal-refused input buffer h =
     record {
@@ -47,7 +49,9 @@ signal-refused input buffer h =
       small = omega arith;
     }
 
-pub limit-refused : (input : List ℕ) (at : ℕ) → ((xs : List ℤ) → reportAt (recorded xs) input at ≡ refusalLine 11) → LimitFound input at (refusedWith 11)
+pub limit-refused : (input : List ℕ) (at : ℕ)
+    → ((xs : List ℤ) → reportAt (recorded xs) input at ≡ refusalLine 11)
+    → LimitFound input at (refusedWith 11)
 limit-refused input at h =
     record {
       refused = λ z. h;
@@ -58,6 +62,7 @@ limit-refused input at h =
       small = omega arith;
     }
 
+-- What is printed where the input ends in each state.
 pub ended-signal : ended start ≡ refusalLine 11
 unfolding ended
 ended-signal = refl
@@ -71,26 +76,31 @@ unfolding ended
 ended-penalty xs k = refl
 
 module _ (input : List ℕ) (at from to : ℕ) (h : NextLine input at from to) where
-  -- a line that is not the form due
+  -- A line is not the form that is due.
   pub signal-stops : signalTurn (formOf (lineOf input from to)) ≡ stops 11 → reportAt start input at ≡ refusalLine 11
   unfolding turnOf
   signal-stops e = h .goes-on start ∙ stopped _ 11 _ e
 
-  pub limit-stops : ((xs : List ℤ) → limitTurn xs (formOf (lineOf input from to)) ≡ stops 11) → (xs : List ℤ) → reportAt (recorded xs) input at ≡ refusalLine 11
+  pub limit-stops : ((xs : List ℤ) → limitTurn xs (formOf (lineOf input from to)) ≡ stops 11)
+      → (xs : List ℤ) → reportAt (recorded xs) input at ≡ refusalLine 11
   unfolding turnOf
   limit-stops e xs = h .goes-on (recorded xs) ∙ stopped _ 11 _ (e xs)
 
-  pub penalty-stops : ((xs : List ℤ) (k : ℕ) → penaltyTurn xs k (formOf (lineOf input from to)) ≡ stops 11) → (xs : List ℤ) (k : ℕ) → reportAt (limited xs k) input at ≡ refusalLine 11
+  pub penalty-stops : ((xs : List ℤ) (k : ℕ) → penaltyTurn xs k (formOf (lineOf input from to)) ≡ stops 11)
+      → (xs : List ℤ) (k : ℕ) → reportAt (limited xs k) input at ≡ refusalLine 11
   unfolding turnOf
   penalty-stops e xs k = h .goes-on (limited xs k) ∙ stopped _ 11 _ (e xs k)
 
-  -- a limit
+  -- A limit is found.
   pub limit-found : (k : ℕ) → formOf (lineOf input from to) ≡ limit k → LimitFound input at (judgedLimit k to)
   unfolding turnOf limitTurn printed byChecks refusalOf
   limit-found k f = by-test (leb 1 k) (leb k 32) refl refl (λ xs. h .goes-on (recorded xs) ∙ rw f refl)
     where
       by-test : (t u : Bool) → leb 1 k ≡ t → leb k 32 ≡ u
-          → ((xs : List ℤ) → reportAt (recorded xs) input at ≡ printed (byChecks (check 3 (t && u) ∷ []) stops (goes (pathLine (signalPath xs (sizeCount xs k))) (limited xs k))) (λ s. reportAt s input (to + 1)))
+          → ((xs : List ℤ) → reportAt (recorded xs) input at
+          ≡ printed
+          (byChecks (check 3 (t && u) ∷ []) stops (goes (pathLine (signalPath xs (sizeCount xs k))) (limited xs k)))
+          (λ s. reportAt s input (to + 1)))
           → LimitFound input at (judgedWith (check 3 (t && u) ∷ []) k to)
       by-test true true a b g =
           record {
@@ -101,28 +111,49 @@ module _ (input : List ℕ) (at from to : ℕ) (h : NextLine input at from to) w
             few = leb-true k 32 b;
             small = omega arith;
           }
-      by-test true false a b g = record { refused = λ z. g; found = λ z. absurd (omega arith); within = omega arith; some = λ z. absurd (omega arith); few = omega arith; small = omega arith }
-      by-test false u a b g = record { refused = λ z. g; found = λ z. absurd (omega arith); within = omega arith; some = λ z. absurd (omega arith); few = omega arith; small = omega arith }
+      by-test true false a b g =
+          record {
+            refused = λ z. g;
+            found = λ z. absurd (omega arith);
+            within = omega arith;
+            some = λ z. absurd (omega arith);
+            few = omega arith;
+            small = omega arith;
+          }
+      by-test false u a b g =
+          record {
+            refused = λ z. g;
+            found = λ z. absurd (omega arith);
+            within = omega arith;
+            some = λ z. absurd (omega arith);
+            few = omega arith;
+            small = omega arith;
+          }
 
-  -- a penalty
-  pub penalty-found : (p q : ℕ) → formOf (lineOf input from to) ≡ penalty p q → 9 ≤ length (lineOf input from to) - 2 → PenaltyAhead input at p q (to + 1)
+  -- A penalty is found.
+  pub penalty-found : (p q : ℕ) → formOf (lineOf input from to) ≡ penalty p q → 9 ≤ length (lineOf input from to) - 2
+      → PenaltyAhead input at p q (to + 1)
   unfolding turnOf penaltyTurn printed
   penalty-found p q f l =
+      let fits : to - from ≤ length (drop from input) = rw (length-drop from input) (omega (arith, h .within)) in
       record {
-        long = omega (arith, h .after, h .order, length-take-le (to - from) (drop from input) (rw (length-drop from input) (omega (arith, h .within))));
+        long = omega (arith, h .after, h .order, length-take-le (to - from) (drop from input) fits);
         within = omega (arith, h .within);
         goes-on = λ xs k. h .goes-on (limited xs k) ∙ rw f refl;
       }
 
--- a signal
+-- A signal is found.
 module _ (input : List ℕ) (from to : ℕ) (h : NextLine input 0 from to) where
-  pub signal-found : (buffer : List ℤ) (n : ℕ) → formOf (lineOf input from to) ≡ signal (take n buffer) → n ≤ length buffer → SignalFound input buffer (judgedSignal n to)
+  pub signal-found : (buffer : List ℤ) (n : ℕ) → formOf (lineOf input from to) ≡ signal (take n buffer) → n ≤ length buffer
+      → SignalFound input buffer (judgedSignal n to)
   unfolding turnOf signalTurn printed byChecks refusalOf
   signal-found buffer n f l =
       by-test (leb 1 n) (leb n 512) refl refl (h .goes-on start ∙ rw (f, length-take-le n buffer l) refl)
     where
       by-test : (t u : Bool) → leb 1 n ≡ t → leb n 512 ≡ u
-          → reportAt start input 0 ≡ printed (byChecks (check 1 t ∷ check 2 u ∷ []) stops (goes [] (recorded (take n buffer)))) (λ s. reportAt s input (to + 1))
+          → reportAt start input 0 ≡ printed
+          (byChecks (check 1 t ∷ check 2 u ∷ []) stops (goes [] (recorded (take n buffer))))
+          (λ s. reportAt s input (to + 1))
           → SignalFound input buffer (judgedWith (check 1 t ∷ check 2 u ∷ []) n to)
       by-test true true a b g =
           record {
@@ -134,5 +165,23 @@ module _ (input : List ℕ) (from to : ℕ) (h : NextLine input 0 from to) where
             in-buffer = l;
             small = omega arith;
           }
-      by-test true false a b g = record { refused = λ z. g; found = λ z. absurd (omega arith); within = omega arith; some = λ z. absurd (omega arith); few = omega arith; in-buffer = omega arith; small = omega arith }
-      by-test false u a b g = record { refused = λ z. g; found = λ z. absurd (omega arith); within = omega arith; some = λ z. absurd (omega arith); few = omega arith; in-buffer = omega arith; small = omega arith }
+      by-test true false a b g =
+          record {
+            refused = λ z. g;
+            found = λ z. absurd (omega arith);
+            within = omega arith;
+            some = λ z. absurd (omega arith);
+            few = omega arith;
+            in-buffer = omega arith;
+            small = omega arith;
+          }
+      by-test false u a b g =
+          record {
+            refused = λ z. g;
+            found = λ z. absurd (omega arith);
+            within = omega arith;
+            some = λ z. absurd (omega arith);
+            few = omega arith;
+            in-buffer = omega arith;
+            small = omega arith;
+          }

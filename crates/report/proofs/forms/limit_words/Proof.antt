@@ -1,92 +1,100 @@
+-- `report::forms::limit_words` compares the first word and reads the one after it as a figure, if no other follows.
 use borrow.Author.Needs.{needs}
-use mathlib.Core.Path.{sym, _∙_}
+use mathlib.Core.Path.{_≡_, sym, _∙_}
+use mathlib.Core.List.{List, _∷_}
+use Prim.Native.Nat.{ℕ}
 use native.Mathlib.Omega.{arith}
-use lib.ListN.{take}
+use lib.ListN.{take, drop}
 use lib.Seq.{length-take-le}
 use borrow.Author.Tests.{not-true, not-false}
-use Rattle.text.specs.Text.{bytes}
-use Rattle.text.proofs.Searches.{rest-none}
-use Rattle.report.proofs.Layouts.{limit-other, limit-words, first-word, next-word, words-left, limit-none, limit-many, limit-one, limit-off}
+use Rattle.text.specs.Text.{bytes, partsOf}
+use Rattle.text.specs.Inner.{rest}
+use Rattle.text.proofs.Searches.{between, first-part, next-part, rest-none, rest-some}
+use Rattle.report.specs.Forms.{limitForm, wordsForm}
+use Rattle.report.proofs.Layouts.{limit-other, limit-words, limit-none, limit-many, limit-one, limit-off}
 use Rattle.report.proofs.forms.limit_words.Statement.{statement}
 use Rattle.report.proofs.forms.limit_words.Tie as tie
 
--- src/forms.rt:139:9
+-- With the word that is due the form is a limit, by the words after it.
+module _ (c : tie.Else1) where
+  abbrev text : List ℕ
+  text = c .before .before .before .before .before .before .args .text .now
+
+  abbrev end : ℕ
+  end = c .before .before .before .before .find .result
+
+  is-limit : wordsForm (partsOf 32 text) ≡ limitForm (rest 32 (drop end text))
+  unfolding bytes
+  is-limit =
+      let s = sym (c .before .same .ensures) ∙ not-false _ (c .if1 .left) in
+      rw (first-part 32 text end (c .before .before .before .before .find .ensures)) (limit-words (take end text) _ s)
+
+-- The word after it.
+next : (c : tie.After-find2)
+    → let t = text (c .before .before) in let e = end (c .before .before) in
+    rest 32 (drop e t) ≡ between t e (c .find2 .result) ∷ rest 32 (drop (c .find2 .result) t)
+next c =
+    let due = c .before .before in
+    next-part 32 (text due) (end due) (c .find2 .result) (omega (arith, c .before .if2 .left)) (c .find2 .ensures)
+
 find-requires : tie.Need-find-requires
 find-requires c κs = search needs
 
--- src/forms.rt:140:14
 slice-aggregate-same : tie.Need-slice-aggregate-same
 slice-aggregate-same c = sym (length-take-le _ _ (c .before .find .ensures .within))
 
--- src/forms.rt:140:28
 slice-aggregate-same-2 : tie.Need-slice-aggregate-same-2
 slice-aggregate-same-2 c = search needs
 
--- src/forms.rt:140:9
 same-requires : tie.Need-same-requires
 same-requires c κs = search needs
 
--- src/forms.rt:141:9
 returns : tie.Need-returns
 unfolding bytes
 returns c =
-    let text = c .before .before .before .before .before .before .args .text .now in
-    let f = c .before .before .before .before .find in
+    let found = c .before .before .before .before in
+    let t = found .before .before .args .text .now in
+    let f = found .find in
     let s = sym (c .before .same .ensures) ∙ not-true _ (c .if1 .taken) in
-    λ xs. rw (first-word text (f .result) (f .ensures)) (limit-other (take (f .result) text) _ s xs)
+    λ xs. rw (first-part 32 t (f .result) (f .ensures)) (limit-other (take (f .result) t) _ s xs)
 
--- src/forms.rt:144:9
 returns-2 : tie.Need-returns-2
-unfolding bytes
 returns-2 c =
-    let text = c .before .before .before .before .before .before .before .args .text .now in
-    let f = c .before .before .before .before .before .find in
-    let s = sym (c .before .before .same .ensures) ∙ not-false _ (c .before .if1 .left) in
-    λ xs. rw (first-word text (f .result) (f .ensures), limit-words (take (f .result) text) _ s, rest-none 32 text (f .result) (omega arith), limit-none) (limit-off xs)
+    let due = c .before in
+    λ xs. rw (is-limit due, rest-none 32 (text due) (end due) (omega arith), limit-none) (limit-off xs)
 
--- src/forms.rt:146:17
 add-start : tie.Need-add-start
 add-start c = search needs
 
--- src/forms.rt:147:9
 find-requires-2 : tie.Need-find-requires-2
 find-requires-2 c κs = search needs
 
--- src/forms.rt:149:9
 returns-3 : tie.Need-returns-3
-unfolding bytes
 returns-3 c =
-    let text = c .before .before .before .before .before .before .before .before .before .args .text .now in
-    let f = c .before .before .before .before .before .before .before .find in
-    let g = c .before .find2 in
-    let s = sym (c .before .before .before .before .same .ensures) ∙ not-false _ (c .before .before .before .if1 .left) in
-    λ xs. rw (first-word text (f .result) (f .ensures), limit-words (take (f .result) text) _ s, next-word text (f .result) (g .result) (omega (arith, f .ensures .within, c .before .before .if2 .left)) (g .ensures), limit-many _ _ (words-left text (g .result) (omega (arith, g .ensures .within, c .if3 .taken)))) (limit-off xs)
+    let stopped = c .before in
+    let due = stopped .before .before in
+    let g = stopped .find2 in
+    let more = rest-some 32 (text due) (g .result) (omega (arith, g .ensures .within, c .if3 .taken)) in
+    λ xs. rw (is-limit due, next stopped, limit-many _ _ more) (limit-off xs)
 
--- src/forms.rt:151:17
 sub-read-figure : tie.Need-sub-read-figure
 sub-read-figure c = search needs
 
--- src/forms.rt:151:17
 part-read-figure-start : tie.Need-part-read-figure-start
 part-read-figure-start c = search needs
 
--- src/forms.rt:151:17
 part-read-figure-end : tie.Need-part-read-figure-end
 part-read-figure-end c = search needs
 
--- src/forms.rt:151:5
 read-figure-requires : tie.Need-read-figure-requires
 read-figure-requires c κs = search needs
 
--- src/forms.rt:136:1
 returns-4 : tie.Need-returns-4
-unfolding bytes
 returns-4 c =
-    let text = c .before .before .before .before .before .before .before .before .before .before .before .args .text .now in
-    let f = c .before .before .before .before .before .before .before .before .before .find in
-    let g = c .before .before .before .find2 in
-    let s = sym (c .before .before .before .before .before .before .same .ensures) ∙ not-false _ (c .before .before .before .before .before .if1 .left) in
-    rw (first-word text (f .result) (f .ensures), limit-words (take (f .result) text) _ s, next-word text (f .result) (g .result) (omega (arith, f .ensures .within, c .before .before .before .before .if2 .left)) (g .ensures), rest-none 32 text (g .result) (omega (arith, c .before .before .if3 .left))) (limit-one _ (c .read-figure .result) (c .read-figure .ensures))
+    let stopped = c .before .before .before in
+    let due = stopped .before .before in
+    let last = rest-none 32 (text due) (stopped .find2 .result) (omega (arith, c .before .before .if3 .left)) in
+    rw (is-limit due, next stopped, last) (limit-one _ (c .read-figure .result) (c .read-figure .ensures))
 
 pub limit-words-spec : {M : Type 1} → statement M
 limit-words-spec =

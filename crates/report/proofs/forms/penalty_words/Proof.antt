@@ -1,17 +1,62 @@
+-- `report::forms::penalty_words` compares the first word and reads the two after it as figures, if no other follows. A price form
+-- has at least 9 bytes inside its brackets: its word, two blanks and two digits.
 use borrow.Author.Needs.{needs}
 use mathlib.Core.Path.{_≡_, sym, _∙_, ap}
+use mathlib.Core.Bool.{true}
+use mathlib.Core.List.{List, _∷_}
 use native.Mathlib.Omega.{arith}
 use lib.ListN.{length, take, drop, length-take}
 use lib.Seq.{length-take-le}
 use borrow.Author.Tests.{not-true, not-false}
-use Rattle.text.specs.Text.{bytes}
-use Rattle.text.proofs.Searches.{rest-none}
-use Rattle.report.proofs.Layouts.{penalty-other, penalty-words, first-word, next-word, words-left, penalty-none, penalty-few, penalty-many, penalty-two, penalty-off}
+use Rattle.text.specs.Text.{bytes, same, partsOf}
+use Rattle.text.specs.Inner.{rest}
+use Rattle.text.proofs.Searches.{between, first-part, next-part, rest-none, rest-some}
+use Rattle.report.specs.Forms.{penaltyForm, wordsForm}
+use Rattle.report.proofs.Layouts.{penalty-other, penalty-words, penalty-none, penalty-few, penalty-many, penalty-two, penalty-off}
 use Rattle.text.proofs.Values.{figure-parts}
 use Rattle.text.proofs.Parts.{same-eq}
-use Prim.Native.Nat.{_+_, _-_}
+use Prim.Native.Nat.{ℕ, _+_, _-_}
 use Rattle.report.proofs.forms.penalty_words.Statement.{statement}
 use Rattle.report.proofs.forms.penalty_words.Tie as tie
+
+-- With the word that is due the form is a penalty, by the words after it.
+module _ (c : tie.Else1) where
+  abbrev text : List ℕ
+  text = c .before .before .before .before .before .before .args .text .now
+
+  abbrev end : ℕ
+  end = c .before .before .before .before .find .result
+
+  is-due : same (take end text) (bytes "price") ≡ true
+  unfolding bytes
+  is-due = sym (c .before .same .ensures) ∙ not-false _ (c .if1 .left)
+
+  is-penalty : wordsForm (partsOf 32 text) ≡ penaltyForm (rest 32 (drop end text))
+  is-penalty =
+      rw (first-part 32 text end (c .before .before .before .before .find .ensures)) (penalty-words (take end text) _ is-due)
+
+  five : end ≡ 5
+  unfolding bytes
+  five =
+      let long = length-take-le end text (c .before .before .before .before .find .ensures .within) in
+      let e : length (take end text) ≡ 5 = ap length (same-eq (take end text) (bytes "price") is-due) in
+      omega arith
+
+-- The word after it, and the one after that.
+next : (c : tie.After-find2)
+    → let t = text (c .before .before) in let e = end (c .before .before) in
+    rest 32 (drop e t) ≡ between t e (c .find2 .result) ∷ rest 32 (drop (c .find2 .result) t)
+next c =
+    let due = c .before .before in
+    next-part 32 (text due) (end due) (c .find2 .result) (omega (arith, c .before .if2 .left)) (c .find2 .ensures)
+
+next-2 : (c : tie.After-find3)
+    → let t = text (c .before .before .before .before) in let e = c .before .before .find2 .result in
+    rest 32 (drop e t) ≡ between t e (c .find3 .result) ∷ rest 32 (drop (c .find3 .result) t)
+next-2 c =
+    let middle = c .before .before in
+    let t = text (middle .before .before) in
+    next-part 32 t (middle .find2 .result) (c .find3 .result) (omega (arith, c .before .if3 .left)) (c .find3 .ensures)
 
 find-requires : tie.Need-find-requires
 find-requires c κs = search needs
@@ -28,18 +73,16 @@ same-requires c κs = search needs
 returns : tie.Need-returns
 unfolding bytes
 returns c =
-    let text = c .before .before .before .before .before .before .args .text .now in
-    let f = c .before .before .before .before .find in
+    let found = c .before .before .before .before in
+    let t = found .before .before .args .text .now in
+    let f = found .find in
     let s = sym (c .before .same .ensures) ∙ not-true _ (c .if1 .taken) in
-    λ xs k. rw (first-word text (f .result) (f .ensures)) (penalty-other (take (f .result) text) _ s xs k)
+    λ xs k. rw (first-part 32 t (f .result) (f .ensures)) (penalty-other (take (f .result) t) _ s xs k)
 
 returns-2 : tie.Need-returns-2
-unfolding bytes
 returns-2 c =
-    let text = c .before .before .before .before .before .before .before .args .text .now in
-    let f = c .before .before .before .before .before .find in
-    let s = sym (c .before .before .same .ensures) ∙ not-false _ (c .before .if1 .left) in
-    λ xs k. rw (first-word text (f .result) (f .ensures), penalty-words (take (f .result) text) _ s, rest-none 32 text (f .result) (omega arith), penalty-none) (penalty-off xs k)
+    let due = c .before in
+    λ xs k. rw (is-penalty due, rest-none 32 (text due) (end due) (omega arith), penalty-none) (penalty-off xs k)
 
 add-start : tie.Need-add-start
 add-start c = search needs
@@ -48,13 +91,11 @@ find-requires-2 : tie.Need-find-requires-2
 find-requires-2 c κs = search needs
 
 returns-3 : tie.Need-returns-3
-unfolding bytes
 returns-3 c =
-    let text = c .before .before .before .before .before .before .before .before .before .args .text .now in
-    let f = c .before .before .before .before .before .before .before .find in
-    let g = c .before .find2 in
-    let s = sym (c .before .before .before .before .same .ensures) ∙ not-false _ (c .before .before .before .if1 .left) in
-    λ xs k. rw (first-word text (f .result) (f .ensures), penalty-words (take (f .result) text) _ s, next-word text (f .result) (g .result) (omega (arith, f .ensures .within, c .before .before .if2 .left)) (g .ensures), rest-none 32 text (g .result) (omega (arith, c .if3 .taken)), penalty-few) (penalty-off xs k)
+    let middle = c .before in
+    let due = middle .before .before in
+    let last = rest-none 32 (text due) (middle .find2 .result) (omega (arith, c .if3 .taken)) in
+    λ xs k. rw (is-penalty due, next middle, last, penalty-few) (penalty-off xs k)
 
 add-second : tie.Need-add-second
 add-second c = search needs
@@ -63,14 +104,13 @@ find-requires-3 : tie.Need-find-requires-3
 find-requires-3 c κs = search needs
 
 returns-4 : tie.Need-returns-4
-unfolding bytes
 returns-4 c =
-    let text = c .before .before .before .before .before .before .before .before .before .before .before .args .text .now in
-    let f = c .before .before .before .before .before .before .before .before .before .find in
-    let g = c .before .before .before .find2 in
-    let k = c .before .find3 in
-    let s = sym (c .before .before .before .before .before .before .same .ensures) ∙ not-false _ (c .before .before .before .before .before .if1 .left) in
-    λ xs l. rw (first-word text (f .result) (f .ensures), penalty-words (take (f .result) text) _ s, next-word text (f .result) (g .result) (omega (arith, f .ensures .within, c .before .before .before .before .if2 .left)) (g .ensures), next-word text (g .result) (k .result) (omega (arith, g .ensures .within, c .before .before .if3 .left)) (k .ensures), penalty-many _ _ _ (words-left text (k .result) (omega (arith, k .ensures .within, c .if4 .taken)))) (penalty-off xs l)
+    let stopped = c .before in
+    let middle = stopped .before .before in
+    let due = middle .before .before in
+    let g = stopped .find3 in
+    let more = rest-some 32 (text due) (g .result) (omega (arith, g .ensures .within, c .if4 .taken)) in
+    λ xs k. rw (is-penalty due, next middle, next-2 stopped, penalty-many _ _ _ more) (penalty-off xs k)
 
 sub-two-figures : tie.Need-sub-two-figures
 sub-two-figures c = search needs
@@ -94,19 +134,20 @@ two-figures-requires : tie.Need-two-figures-requires
 two-figures-requires c κs = search needs
 
 returns-5 : tie.Need-returns-5
-unfolding bytes
 returns-5 c =
-    let text = c .before .before .before .before .before .before .before .before .before .before .before .before .before .before .args .text .now in
-    let f = c .before .before .before .before .before .before .before .before .before .before .before .before .find in
-    let g = c .before .before .before .before .before .before .find2 in
-    let k = c .before .before .before .before .find3 in
-    let s = sym (c .before .before .before .before .before .before .before .before .before .same .ensures) ∙ not-false _ (c .before .before .before .before .before .before .before .before .if1 .left) in
-    let five : length (take (f .result) text) ≡ 5 = ap length (same-eq (take (f .result) text) (bytes "price") s) in
-    let h₁ = length-take-le (f .result) text (f .ensures .within) in
-    let h₂ = length-take (g .result - (f .result + 1)) (drop (f .result + 1) text) in
-    let h₃ = length-take (k .result - (g .result + 1)) (drop (g .result + 1) text) in
-    rw (first-word text (f .result) (f .ensures), penalty-words (take (f .result) text) _ s, next-word text (f .result) (g .result) (omega (arith, f .ensures .within, c .before .before .before .before .before .before .before .if2 .left)) (g .ensures), next-word text (g .result) (k .result) (omega (arith, g .ensures .within, c .before .before .before .before .before .if3 .left)) (k .ensures), rest-none 32 text (k .result) (omega (arith, c .before .before .before .if4 .left)))
-    (penalty-two _ _ (length text) (c .two-figures .result) (c .two-figures .ensures) (λ a b. omega (arith, figure-parts _ a .0 .some, figure-parts _ b .0 .some, h₁, h₂, h₃, five, c .before .before .before .if4 .left)))
+    let stopped = c .before .before .before .before in
+    let middle = stopped .before .before in
+    let due = middle .before .before in
+    let t = text due in
+    let e = end due in
+    let m = middle .find2 .result in
+    let s = stopped .find3 .result in
+    let at-end = c .before .before .before .if4 .left in
+    let first-long = length-take (m - (e + 1)) (drop (e + 1) t) in
+    let second-long = length-take (s - (m + 1)) (drop (m + 1) t) in
+    rw (is-penalty due, next middle, next-2 stopped, rest-none 32 t s (omega arith))
+    (penalty-two _ _ (length t) (c .two-figures .result) (c .two-figures .ensures)
+    (λ v w. omega (arith, figure-parts _ v .0 .some, figure-parts _ w .0 .some, five due)))
 
 pub penalty-words-spec : {M : Type 1} → statement M
 penalty-words-spec =

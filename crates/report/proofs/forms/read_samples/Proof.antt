@@ -1,3 +1,5 @@
+-- `report::forms::read_samples` reads word after word. The loop's invariant: all words are samples if those that are left are, and
+-- the values are those in the buffer and then those of the words left.
 use mathlib.Core.Path.{_≡_, refl, ap, _∙_}
 use mathlib.Core.List.{List, _∷_, _++_, map, append-nil}
 use lib.IntN.{ℤ}
@@ -15,7 +17,10 @@ use Rattle.report.proofs.forms.read_samples.Statement.{statement}
 use Rattle.report.proofs.forms.read_samples.Tie as tie
 
 abbrev Inv-loop : tie.InvT-loop
-Inv-loop text from samples₀ at₀ count₀ samples at count = (at ≤ length text) × (count ≤ at) × (length samples ≡ length samples₀) × (allSamples (rest 32 (drop from text)) ≡ allSamples (rest 32 (drop at text))) × (map sampleOf (rest 32 (drop from text)) ≡ take count samples ++ map sampleOf (rest 32 (drop at text)))
+Inv-loop text from samples₀ at₀ count₀ samples at count =
+    (at ≤ length text) × (count ≤ at) × (length samples ≡ length samples₀)
+    × (allSamples (rest 32 (drop from text)) ≡ allSamples (rest 32 (drop at text)))
+    × (map sampleOf (rest 32 (drop from text)) ≡ take count samples ++ map sampleOf (rest 32 (drop at text)))
 
 abbrev μ-loop : tie.MeasureT-loop
 μ-loop text from samples₀ at₀ count₀ samples at count = length text - at
@@ -48,50 +53,73 @@ mul-x : tie.Need-mul-x Inv-loop μ-loop
 mul-x c = omega arith
 
 slice-set-from-x : tie.Need-slice-set-from-x Inv-loop μ-loop
-slice-set-from-x c = omega (arith, c .before .before .before .before .before .before .before .before .before .pre)
+slice-set-from-x c =
+    let start = c .before .before .before .before .before .before .before .before .before in
+    omega arith
 
 add-count : tie.Need-add-count Inv-loop μ-loop
 add-count c = omega arith
 
 loop-less : tie.Need-loop-less Inv-loop μ-loop
-loop-less c = omega (arith, c .before .before .before .before .before .find .ensures .from, c .before .before .before .before .before .find .ensures .within)
+loop-less c =
+    let found = c .before .before .before .before .before in
+    omega (arith, found .find .ensures .from, found .find .ensures .within)
 
 loop-again : tie.Need-loop-again Inv-loop μ-loop
 loop-again c =
-    let st = c .before .before .before .before .before .before .before .before .before in
-    let text = st .args .text .now in
-    let lp = c .before .before .before .before .before .before .before .loop in
-    let f = c .before .before .before .before .before .find in
-    let r = c .before .before .before .read-sample in
+    let read = c .before .before .before in
+    let found = read .before .before in
+    let looped = found .before .before in
+    let start = looped .before .before in
+    let text = start .args .text .now in
+    let lp = looped .loop in
+    let f = found .find in
+    let r = read .read-sample in
     let x = c .before .x .given .0 .0 in
     let k = sample-known _ (r .result) x (r .ensures) (c .before .x .given .1) in
-    let v : map sampleOf (rest 32 (drop (lp .at) text)) ≡ x ∷ map sampleOf (rest 32 (drop (f .result) text)) = values-on text (lp .at) (f .result) (omega arith) (f .ensures) ∙ rw (k .1) refl in
     let fits = rw (k .1) at (sample-in-range _ (k .0)) in
-    (f .ensures .within, omega (arith, f .ensures .from), simp length-set (lp .inv .2), lp .inv .3 ∙ samples-on text (lp .at) (f .result) (omega arith) (f .ensures) (k .0), rw (toZ-ofZ fits) (lp .inv .4 ∙ ap (λ (m : List ℤ). take (lp .count) (lp .samples) ++ m) v ∙ value-stored (lp .samples) (lp .count) x _ (omega (arith, st .pre))))
+    let all = samples-on text (lp .at) (f .result) (omega arith) (f .ensures) (k .0) in
+    let later = map sampleOf (rest 32 (drop (f .result) text)) in
+    let values : map sampleOf (rest 32 (drop (lp .at) text)) ≡ x ∷ later
+    = values-on text (lp .at) (f .result) (omega arith) (f .ensures) ∙ rw (k .1) refl in
+    let stored = value-stored (lp .samples) (lp .count) x later (omega (arith, start .pre)) in (
+      f .ensures .within,
+      omega (arith, f .ensures .from),
+      simp length-set (lp .inv .2),
+      lp .inv .3 ∙ all,
+      rw (toZ-ofZ fits) (lp .inv .4 ∙ ap (λ (m : List ℤ). take (lp .count) (lp .samples) ++ m) values ∙ stored),
+    )
 
 enum-told : tie.Need-enum-told Inv-loop μ-loop
 enum-told c = search needs
 
 same-length : tie.Need-same-length Inv-loop μ-loop
-same-length c = c .before .before .before .before .before .before .loop .inv .2
+same-length c =
+    let looped = c .before .before .before .before .before .before in
+    looped .loop .inv .2
 
 returns : tie.Need-returns Inv-loop μ-loop
 returns c =
-    let text = c .before .before .before .before .before .before .before .before .args .text .now in
-    let lp = c .before .before .before .before .before .before .loop in
-    let f = c .before .before .before .before .find in
-    let r = c .before .before .read-sample in
-    signal-bad _ (lp .inv .3 ∙ samples-off text (lp .at) (f .result) (omega arith) (f .ensures) (sample-none _ (r .result) (r .ensures) (c .enum-told .given .1)))
+    let read = c .before .before in
+    let found = read .before .before in
+    let looped = found .before .before in
+    let text = looped .before .before .args .text .now in
+    let lp = looped .loop in
+    let f = found .find in
+    let none = sample-none _ (read .read-sample .result) (read .read-sample .ensures) (c .enum-told .given .1) in
+    signal-bad _ (lp .inv .3 ∙ samples-off text (lp .at) (f .result) (omega arith) (f .ensures) none)
 
 same-length-2 : tie.Need-same-length-2 Inv-loop μ-loop
 same-length-2 c = c .before .loop .inv .2
 
 returns-2 : tie.Need-returns-2 Inv-loop μ-loop
 returns-2 c =
-    let text = c .before .before .before .args .text .now in
-    let lp = c .before .loop in
-    let d = samples-done text (lp .at) (omega arith) in
-    (signal-good _ _ (lp .inv .3 ∙ d .0) (lp .inv .4 ∙ ap (λ m. take (lp .count) (lp .samples) ++ m) (d .1) ∙ append-nil _), omega (arith, c .before .before .before .pre))
+    let looped = c .before in
+    let start = looped .before .before in
+    let lp = looped .loop in
+    let d = samples-done (start .args .text .now) (lp .at) (omega arith) in
+    let values = lp .inv .4 ∙ ap (λ m. take (lp .count) (lp .samples) ++ m) (d .1) ∙ append-nil _ in
+    (signal-good _ _ (lp .inv .3 ∙ d .0) values, omega (arith, start .pre))
 
 pub read-samples-spec : {M : Type 1} → statement M
 read-samples-spec =

@@ -1,3 +1,4 @@
+-- `report::lines::put_entries` puts entry after entry. The loop's invariant: the text of the first i entries lies over the output.
 use mathlib.Core.Path.{_≡_, refl, sym}
 use Prim.Native.Nat.{_-_, _≤_}
 use native.Mathlib.Omega.{arith}
@@ -11,43 +12,47 @@ use Rattle.report.proofs.lines.put_entries.Statement.{statement}
 use Rattle.report.proofs.lines.put_entries.Tie as tie
 
 abbrev Inv-loop : tie.InvT-loop
-Inv-loop output₀ at sizes losses entries place₀ i₀ output place i = (i ≤ entries) × (length output ≡ length output₀) × Put (entriesText (pathOf sizes losses i)) at output₀ output place
+Inv-loop output₀ at sizes losses entries place₀ i₀ output place i =
+    (i ≤ entries) × (length output ≡ length output₀) × Put (entriesText (pathOf sizes losses i)) at output₀ output place
 
 abbrev μ-loop : tie.MeasureT-loop
 μ-loop output₀ at sizes losses entries place₀ i₀ output place i = entries - i
 
--- src/print.rt:141:5
 loop-holds : tie.Need-loop-holds Inv-loop μ-loop
 unfolding pathOf entriesText
-loop-holds c = (omega arith, refl, put-nothing (c .before .before .before .args .output .now) (c .before .before .before .args .at) (omega (arith, c .before .before .before .pre .fits)))
+loop-holds c =
+    let start = c .before .before .before in
+    (omega arith, refl, put-nothing (start .args .output .now) (start .args .at) (omega (arith, start .pre .fits)))
 
--- src/print.rt:142:9
 put-entry-requires : tie.Need-put-entry-requires Inv-loop μ-loop
 put-entry-requires c κs =
-    let a = c .before .before .before .before .before .before .args in
-    let lp = c .before .before .loop in
-    rw (lp .inv .1) (entry-from (a .sizes .now) (a .losses .now) (a .entries) (a .at) (length (a .output .now)) (lp .i) (lp .place) (c .before .before .before .before .before .before .pre) (c .before .loop-test .taken) (lp .inv .2 .end-is))
+    let looped = c .before .before in
+    let start = looped .before .before .before .before in
+    let a = start .args in
+    let lp = looped .loop in
+    let room = length (a .output .now) in
+    rw (lp .inv .1)
+    (entry-from (a .sizes .now) (a .losses .now) (a .entries) (a .at) room (lp .i) (lp .place)
+    (start .pre) (c .before .loop-test .taken) (lp .inv .2 .end-is))
 
--- src/print.rt:143:9
 add-i : tie.Need-add-i Inv-loop μ-loop
 add-i c = omega arith
 
--- src/print.rt:141:5
 loop-less : tie.Need-loop-less Inv-loop μ-loop
 loop-less c = omega arith
 
--- src/print.rt:141:5
 loop-again : tie.Need-loop-again Inv-loop μ-loop
 loop-again c =
-    let a = c .before .before .before .before .before .before .before .before .before .args in
-    let lp = c .before .before .before .before .before .loop in
-    (omega arith, omega (arith, c .before .before .put-entry .kept), put-as (sym (entries-more (a .sizes .now) (a .losses .now) (lp .i))) (put-then (lp .inv .2) (c .before .before .put-entry .ensures)))
+    let entry = c .before .before in
+    let looped = entry .before .before .before in
+    let a = looped .before .before .before .before .args in
+    let lp = looped .loop in
+    let more = entries-more (a .sizes .now) (a .losses .now) (lp .i) in
+    (omega arith, omega (arith, entry .put-entry .kept), put-as (sym more) (put-then (lp .inv .2) (entry .put-entry .ensures)))
 
--- src/print.rt:129:1
 same-length : tie.Need-same-length Inv-loop μ-loop
 same-length c = c .before .loop .inv .1
 
--- src/print.rt:129:1
 returns : tie.Need-returns Inv-loop μ-loop
 returns c =
     let a = c .before .before .before .before .before .args in

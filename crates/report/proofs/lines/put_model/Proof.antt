@@ -1,48 +1,66 @@
+-- `report::lines::put_model` puts its five pieces one after the other; each fits because their lengths add up to the text's.
 use borrow.Author.Needs.{needs}
 use native.Mathlib.Omega.{arith}
 use Rattle.text.specs.Text.{bytes}
 use Rattle.report.specs.Lines.{modelText}
 use Rattle.text.proofs.Prints.{put-then}
-use Rattle.report.proofs.Texts.{model-length}
+use Rattle.report.proofs.Pieces.{model-length}
 use Rattle.report.proofs.lines.put_model.Statement.{statement}
 use Rattle.report.proofs.lines.put_model.Tie as tie
 
--- src/print.rt:94:37
 slice-aggregate-put-text : tie.Need-slice-aggregate-put-text
 slice-aggregate-put-text c = search needs
 
--- src/print.rt:94:9
 put-text-requires : tie.Need-put-text-requires
-put-text-requires c κs = omega (arith, model-length (c .before .before .before .args .size) (c .before .before .before .args .loss), c .before .before .before .pre)
+put-text-requires c κs =
+    let start = c .before .before .before in
+    omega (arith, model-length (start .args .size) (start .args .loss))
 
--- src/print.rt:95:9
 put-number-requires : tie.Need-put-number-requires
-put-number-requires c κs = omega (arith, model-length (c .before .before .before .before .before .before .before .args .size) (c .before .before .before .before .before .before .before .args .loss), c .before .before .before .before .before .before .before .pre, c .before .before .before .put-text .ensures .end-is, c .before .before .before .put-text .kept)
+put-number-requires c κs =
+    let word = c .before .before .before in
+    let start = word .before .before .before .before in
+    omega (arith, model-length (start .args .size) (start .args .loss))
 
--- src/print.rt:96:43
 slice-aggregate-put-text-2 : tie.Need-slice-aggregate-put-text-2
 slice-aggregate-put-text-2 c = search needs
 
--- src/print.rt:96:9
 put-text-requires-2 : tie.Need-put-text-requires-2
-put-text-requires-2 c κs = omega (arith, model-length (c .before .before .before .before .before .before .before .before .before .before .before .before .args .size) (c .before .before .before .before .before .before .before .before .before .before .before .before .args .loss), c .before .before .before .before .before .before .before .before .before .before .before .before .pre, c .before .before .before .before .put-number .ensures .end-is, c .before .before .before .before .before .before .before .before .put-text .ensures .end-is, c .before .before .before .before .put-number .kept, c .before .before .before .before .before .before .before .before .put-text .kept)
+put-text-requires-2 c κs =
+    let number = c .before .before .before .before in
+    let word = number .before .before .before .before in
+    let start = word .before .before .before .before in
+    omega (arith, model-length (start .args .size) (start .args .loss))
 
--- src/print.rt:97:9
 put-number-requires-2 : tie.Need-put-number-requires-2
-put-number-requires-2 c κs = omega (arith, model-length (c .before .before .before .before .before .before .before .before .before .before .before .before .before .before .before .before .args .size) (c .before .before .before .before .before .before .before .before .before .before .before .before .before .before .before .before .args .loss), c .before .before .before .before .before .before .before .before .before .before .before .before .before .before .before .before .pre, c .before .before .before .put-text2 .ensures .end-is, c .before .before .before .before .before .before .before .before .put-number .ensures .end-is, c .before .before .before .before .before .before .before .before .before .before .before .before .put-text .ensures .end-is, c .before .before .before .put-text2 .kept, c .before .before .before .before .before .before .before .before .put-number .kept, c .before .before .before .before .before .before .before .before .before .before .before .before .put-text .kept)
+put-number-requires-2 c κs =
+    let second = c .before .before .before in
+    let number = second .before .before .before .before .before in
+    let word = number .before .before .before .before in
+    let start = word .before .before .before .before in
+    omega (arith, model-length (start .args .size) (start .args .loss))
 
--- src/print.rt:98:5
 put-byte-requires : tie.Need-put-byte-requires
-put-byte-requires c κs = omega (arith, model-length (c .before .before .before .before .before .before .before .before .before .before .before .before .before .before .before .before .before .before .before .before .args .size) (c .before .before .before .before .before .before .before .before .before .before .before .before .before .before .before .before .before .before .before .before .args .loss), c .before .before .before .before .before .before .before .before .before .before .before .before .before .before .before .before .before .before .before .before .pre, c .before .before .before .put-number2 .ensures .end-is, c .before .before .before .before .before .before .before .put-text2 .ensures .end-is, c .before .before .before .before .before .before .before .before .before .before .before .before .put-number .ensures .end-is, c .before .before .before .before .before .before .before .before .before .before .before .before .before .before .before .before .put-text .ensures .end-is, c .before .before .before .put-number2 .kept, c .before .before .before .before .before .before .before .put-text2 .kept, c .before .before .before .before .before .before .before .before .before .before .before .before .put-number .kept, c .before .before .before .before .before .before .before .before .before .before .before .before .before .before .before .before .put-text .kept)
+put-byte-requires c κs =
+    let value = c .before .before .before in
+    let second = value .before .before .before .before in
+    let number = second .before .before .before .before .before in
+    let word = number .before .before .before .before in
+    let start = word .before .before .before .before in
+    omega (arith, model-length (start .args .size) (start .args .loss))
 
--- src/print.rt:90:1
 same-length : tie.Need-same-length
 same-length c = search needs
 
--- src/print.rt:90:1
 returns : tie.Need-returns
 unfolding bytes modelText
-returns c = put-then (put-then (put-then (put-then (c .before .before .before .before .before .before .before .before .before .before .before .before .before .before .before .before .before .before .before .put-text .ensures) (c .before .before .before .before .before .before .before .before .before .before .before .before .before .before .before .put-number .ensures)) (c .before .before .before .before .before .before .before .before .before .before .put-text2 .ensures)) (c .before .before .before .before .before .before .put-number2 .ensures)) (c .before .before .put-byte .ensures)
+returns c =
+    let value = c .before .before .before .before .before .before in
+    let second = value .before .before .before .before in
+    let number = second .before .before .before .before .before in
+    let word = number .before .before .before .before in
+    let front = put-then (put-then (word .put-text .ensures) (number .put-number .ensures)) (second .put-text2 .ensures) in
+    put-then (put-then front (value .put-number2 .ensures)) (c .before .before .put-byte .ensures)
 
 pub put-model-spec : {M : Type 1} → statement M
 put-model-spec =
