@@ -7,14 +7,14 @@ use native.Mathlib.Omega.{arith}
 use lib.ListN.{length, drop, drop-of-length-le}
 use lib.Seq.{drop-cons}
 use Rattle.text.specs.Text.{partsOf}
-use Rattle.report.specs.Forms.{note, formOf}
 use Rattle.text.specs.Notes.{isNote}
+use Rattle.text.specs.Inner.{Found}
+use Rattle.text.proofs.Searches.{parts-found, rest-more, rest-none, parts-some}
+use Rattle.report.specs.Forms.{note, formOf}
 use Rattle.report.specs.Lines.{refusalLine}
 use Rattle.report.specs.Report.{State, start, recorded, limited, signalTurn, limitTurn, penaltyTurn, turnOf}
 use Rattle.report.specs.Report.{printed, ended, lastPart, reportFrom}
-use Rattle.text.specs.Inner.{Found}
 use Rattle.report.specs.Inner.{reportAt, lineOf}
-use Rattle.text.proofs.Searches.{parts-found, rest-more, rest-none, parts-some}
 
 -- A line that others follow takes its turn.
 report-cons : (s : State) (line : List ℕ) (ps : List (List ℕ)) → 0 < length ps

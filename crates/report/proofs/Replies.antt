@@ -5,13 +5,13 @@ use Prim.Native.Nat.{ℕ, _≤_}
 use lib.IntN.{ℤ}
 use lib.ListN.{length}
 use Rattle.signal.specs.Signal.{sizeCount}
+use Rattle.text.specs.Inner.{Put}
+use Rattle.text.proofs.Prints.{put-then, put-as, put-nothing}
 use Rattle.report.specs.Lines.{refusalLine}
 use Rattle.report.specs.Report.{limited}
-use Rattle.text.specs.Inner.{Put}
 use Rattle.report.specs.Inner.{reportAt, answerAt, PenaltyAhead, PenaltyNext}
 use Rattle.report.specs.declared.forms.NextPenalty.{NextPenalty}
 use Rattle.report.specs.declared.forms.NextPenalty.the-variants as next
-use Rattle.text.proofs.Prints.{put-then, put-as, put-nothing}
 
 -- What the answer on the next penalty says.
 module _ (input : List ℕ) (at : ℕ) (r : NextPenalty) (h : PenaltyNext input at r) where

@@ -18,9 +18,9 @@ use Rattle.signal.specs.Inner.{Solved}
 use Rattle.signal.specs.SignalPath.{PathBuffers}
 use Rattle.signal.proofs.Paths.{path-few}
 use Rattle.signal.proofs.Cases.{solved-path}
+use Rattle.text.specs.Inner.{Put}
 use Rattle.report.specs.Lines.{refusalLine, pathLine}
 use Rattle.report.specs.Report.{start, inputLen, outputLen, reportText, ReportOutcome, reportRefused, reportLeft, reportOf}
-use Rattle.text.specs.Inner.{Put}
 use Rattle.report.specs.Inner.{Printable, Answering, PathFrom, reportAt}
 use Rattle.report.proofs.Lengths.{path-line-few}
 

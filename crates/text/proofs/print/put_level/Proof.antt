@@ -1,16 +1,16 @@
 -- `text::print::put_level` writes a level by its raised value: a minus and the distance below zero, or the number itself.
 use mathlib.Core.Path.{_≡_, ap}
-use borrow.Author.Needs.{needs}
-use native.Mathlib.Omega.{arith}
-use lib.ListN.{length}
-use Rattle.text.proofs.Prints.{put-then, put-as}
-use Rattle.text.proofs.Texts.{level-below, level-above}
-use Rattle.text.proofs.print.put_level.Statement.{statement}
-use Rattle.text.proofs.print.put_level.Tie as tie
 use mathlib.Core.List.{[], _∷_, _++_}
 use Prim.Native.Nat.{_-_}
+use native.Mathlib.Omega.{arith}
+use lib.ListN.{length}
 use mir.Facts.{toZ-ofZ}
 use Rattle.text.specs.Text.{digits, wholeDigits}
+use Rattle.text.proofs.Prints.{put-then, put-as}
+use Rattle.text.proofs.Texts.{level-below, level-above}
+use borrow.Author.Needs.{needs}
+use Rattle.text.proofs.print.put_level.Statement.{statement}
+use Rattle.text.proofs.print.put_level.Tie as tie
 
 -- What is written in the two cases is the level in decimal.
 below : (c : tie.Then1)

@@ -1,9 +1,9 @@
 -- `text::words::figure_shaped` tests the length and then the first byte: each answer is what `isShaped` says where the tests before
 -- it are known.
-use borrow.Author.Needs.{needs}
-use lib.ListN.{length}
 use native.Mathlib.Omega.{arith}
+use lib.ListN.{length}
 use borrow.Author.Tests.{le-leb, lt-leb}
+use borrow.Author.Needs.{needs}
 use Rattle.text.proofs.words.figure_shaped.Statement.{statement}
 use Rattle.text.proofs.words.figure_shaped.Tie as tie
 
