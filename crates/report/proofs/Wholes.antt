@@ -18,22 +18,29 @@ use Rattle.signal.specs.Inner.{Solved}
 use Rattle.signal.specs.SignalPath.{PathBuffers}
 use Rattle.signal.proofs.Paths.{path-few}
 use Rattle.signal.proofs.Cases.{solved-path}
+use Rattle.text.specs.Inner.{Put}
 use Rattle.report.specs.Lines.{refusalLine, pathLine}
 use Rattle.report.specs.Report.{start, inputLen, outputLen, reportText, ReportOutcome, reportRefused, reportLeft, reportOf}
-use Rattle.text.specs.Inner.{Put}
 use Rattle.report.specs.Inner.{Printable, Answering, PathFrom, reportAt}
-use Rattle.report.proofs.Lengths.{path-few as line-few}
+use Rattle.report.proofs.Lengths.{path-line-few}
 
 -- From a solved signal: the path is in its buffers, its line is short, and penalties can be answered.
 module _ (xs : List ℤ) (limit : ℕ) (b₀ b : PathBuffers) (n : ℕ) (h : Solved xs limit b₀ b n)
     (input : List ℕ) (from room : ℕ) (p : Printable xs limit input from room) where
   pub line-short : length (pathLine (pathOf (b .sizes) (b .losses) n)) ≤ 2000
-  line-short = line-few (b .sizes) (b .losses) n (valid-parts (b .sizes) (b .losses) n (h .valid) .order) (omega (arith, path-few xs (sizeCount xs limit), h .counted, p .few))
+  line-short =
+      let v = valid-parts (b .sizes) (b .losses) n (h .valid) in
+      path-line-few (b .sizes) (b .losses) n (v .order) (omega (arith, path-few xs (sizeCount xs limit), h .counted, p .few))
 
   pub path-from : PathFrom (b .sizes) (b .losses) n room
   path-from =
       let v = valid-parts (b .sizes) (b .losses) n (h .valid) in
-      record { in-sizes = v .in-sizes; in-losses = v .in-losses; order = v .order; fits = omega (arith, line-short, p .room-long) }
+      record {
+        in-sizes = v .in-sizes;
+        in-losses = v .in-losses;
+        order = v .order;
+        fits = omega (arith, line-short, p .room-long);
+      }
 
   pub answering : (count : ℕ) → count ≡ min limit (length xs) → Answering xs count b n
   answering count e =
@@ -47,7 +54,7 @@ module _ (xs : List ℤ) (limit : ℕ) (b₀ b : PathBuffers) (n : ℕ) (h : Sol
         table = rw e (h .table);
       }
 
--- the text of a report, and its outcome
+-- The text of a report is a refusal where the input is too long.
 pub text-long : (input : List ℕ) → inputLen < length input → refusalLine 11 ≡ reportText input
 unfolding reportText
 text-long input h = rw (lt-leb (length input) inputLen h) refl
@@ -56,7 +63,7 @@ pub text-short : (input : List ℕ) → length input ≤ inputLen → reportAt s
 unfolding reportText
 text-short input h = rw (le-leb (length input) inputLen h) refl
 
--- `reportOf` by the refusal that its check gives.
+-- The outcome of a report, by whether the output has its room.
 module _ (input out : List ℕ) where
   pub reported-not : length out < outputLen → reportRefused out 9 ≡ reportOf input out
   unfolding reportOf byChecks refusalOf
@@ -71,12 +78,14 @@ module _ (input out : List ℕ) where
       rw (le-leb outputLen (length out) h, e, o) refl
 
   -- A report's length is within its buffer.
-  pub length-within : (out' : List ℕ) (refusal n : ℕ) → record { refusal = refusal; length = n; output = out' } ≡ reportOf input out → n ≤ length out'
+  pub length-within : (out' : List ℕ) (refusal n : ℕ) → record { refusal = refusal; length = n; output = out' } ≡ reportOf input out
+      → n ≤ length out'
   unfolding reportOf byChecks refusalOf
   length-within out' refusal n e = by-test (leb outputLen (length out)) e
     where
       by-test : (t : Bool)
-          → _≡_ {A = ReportOutcome} (record { refusal = refusal; length = n; output = out' }) (byChecks (check 9 (t && true) ∷ []) (reportRefused out) (reportLeft (reportText input) out))
+          → _≡_ {A = ReportOutcome} (record { refusal = refusal; length = n; output = out' })
+          (byChecks (check 9 (t && true) ∷ []) (reportRefused out) (reportLeft (reportText input) out))
           → n ≤ length out'
       by-test true e =
           let a : n ≡ length (reportText input) = ap (λ (o : ReportOutcome). o .length) e in

@@ -1,4 +1,4 @@
--- Laws of brackets that close: what a byte does with so many brackets open, and what skipping a form or its items says of it.
+-- Brackets that close: what a byte does with so many brackets open, and what skipping a form or its items says of it.
 use mathlib.Core.Path.{_≡_, refl, sym, _∙_}
 use mathlib.Core.Bool.{true, false, _&&_}
 use mathlib.Core.List.{List, [], _∷_}
@@ -14,42 +14,43 @@ use Rattle.text.specs.Inner.{resumed, Past}
 use Rattle.text.specs.declared.notes.Skip.{Skip}
 use Rattle.text.specs.declared.notes.Skip.the-variants.{At, Off}
 
+-- What closing says at the end of a text, and at each kind of byte.
 module _ (s : List ℕ) (i d : ℕ) where
-  pub ended : length s ≤ i → closes (suc d) (drop i s) ≡ false
+  pub at-end : length s ≤ i → closes (suc d) (drop i s) ≡ false
   unfolding closes
-  ended h = rw (drop-of-length-le s h) refl
+  at-end h = rw (drop-of-length-le s h) refl
 
   module _ (h : i < length s) where
-    pub closing : getD s i 0 ≡ 41 → closes (suc d) (drop i s) ≡ closes d (drop (i + 1) s)
+    pub at-closing : getD s i 0 ≡ 41 → closes (suc d) (drop i s) ≡ closes d (drop (i + 1) s)
     unfolding closes
-    closing e = rw (drop-cons s i 0 h, add-one) (simp e)
+    at-closing e = rw (drop-cons s i 0 h, add-one) (simp e)
 
-    pub opening : getD s i 0 ≡ 40 → closes (suc d) (drop i s) ≡ (ltb (suc d) 8 && closes (suc (suc d)) (drop (i + 1) s))
+    at-opening : getD s i 0 ≡ 40 → closes (suc d) (drop i s) ≡ (ltb (suc d) 8 && closes (suc (suc d)) (drop (i + 1) s))
     unfolding closes
-    opening e = rw (drop-cons s i 0 h, add-one) (simp e)
+    at-opening e = rw (drop-cons s i 0 h, add-one) (simp e)
 
     module _ (m : getD s i 0 ≡ 41 → ⊥) (n : getD s i 0 ≡ 40 → ⊥) where
-      pub plain : 32 ≤ getD s i 0 → getD s i 0 ≤ 126 → closes (suc d) (drop i s) ≡ closes (suc d) (drop (i + 1) s)
+      pub at-plain : 32 ≤ getD s i 0 → getD s i 0 ≤ 126 → closes (suc d) (drop i s) ≡ closes (suc d) (drop (i + 1) s)
       unfolding closes
-      plain l u = rw (drop-cons s i 0 h, add-one) (simp (ne-eqb _ _ m, ne-eqb _ _ n, le-leb _ _ l, le-leb _ _ u))
+      at-plain l u = rw (drop-cons s i 0 h, add-one) (simp (ne-eqb _ _ m, ne-eqb _ _ n, le-leb _ _ l, le-leb _ _ u))
 
-      pub low : getD s i 0 < 32 → closes (suc d) (drop i s) ≡ false
+      pub at-low : getD s i 0 < 32 → closes (suc d) (drop i s) ≡ false
       unfolding closes
-      low l = rw (drop-cons s i 0 h) (simp (ne-eqb _ _ m, ne-eqb _ _ n, lt-leb _ _ l))
+      at-low l = rw (drop-cons s i 0 h) (simp (ne-eqb _ _ m, ne-eqb _ _ n, lt-leb _ _ l))
 
-      pub high : 32 ≤ getD s i 0 → 126 < getD s i 0 → closes (suc d) (drop i s) ≡ false
+      pub at-high : 32 ≤ getD s i 0 → 126 < getD s i 0 → closes (suc d) (drop i s) ≡ false
       unfolding closes
-      high l u = rw (drop-cons s i 0 h) (simp (ne-eqb _ _ m, ne-eqb _ _ n, le-leb _ _ l, lt-leb _ _ u))
+      at-high l u = rw (drop-cons s i 0 h) (simp (ne-eqb _ _ m, ne-eqb _ _ n, le-leb _ _ l, lt-leb _ _ u))
 
--- with no bracket open the text is at its end
-pub closed : (s : List ℕ) (n : ℕ) → n ≤ length s → closes 0 (drop n s) ≡ eqb n (length s)
+-- With no bracket open the text is at its end.
+pub all-closed : (s : List ℕ) (n : ℕ) → n ≤ length s → closes 0 (drop n s) ≡ eqb n (length s)
 unfolding closes
-closed [] zero h = refl
-closed [] (suc n) h = absurd (omega arith)
-closed (b ∷ s) zero h = sym (eqb·zero-suc (length s))
-closed (b ∷ s) (suc n) h = closed s n (omega arith) ∙ sym (eqb·suc-suc n (length s))
+all-closed [] zero h = refl
+all-closed [] (suc n) h = absurd (omega arith)
+all-closed (b ∷ s) zero h = sym (eqb·zero-suc (length s))
+all-closed (b ∷ s) (suc n) h = all-closed s n (omega arith) ∙ sym (eqb·suc-suc n (length s))
 
--- the items inside a form, and the form
+-- What skipping the items inside a form says of the form.
 pub form-on : (s : List ℕ) (at depth : ℕ) → 1 ≤ depth → depth ≤ 8 → (r : Skip)
     → closes (suc (7 - (depth - 1))) (drop (at + 1) s) ≡ resumed (7 - (depth - 1)) s r
     → (ltb (8 - depth) 8 && closes (suc (8 - depth)) (drop (at + 1) s)) ≡ resumed (8 - depth) s r
@@ -58,18 +59,20 @@ form-on s at depth l u r h =
     let t : ltb (8 - depth) 8 ≡ true = lt-ltb (8 - depth) 8 (omega arith) in
     rw t (rw e at h)
 
--- a form among the items
+-- What skipping a form among items says of the items.
 pub nested : (s : List ℕ) (i depth : ℕ) → i < length s → getD s i 0 ≡ 40 → depth ≤ 7 → (r : Skip)
     → (ltb (8 - depth) 8 && closes (suc (8 - depth)) (drop (i + 1) s)) ≡ resumed (8 - depth) s r
     → closes (suc (7 - depth)) (drop i s) ≡ resumed (suc (7 - depth)) s r
 nested s i depth h e u r g =
     let k : 8 - depth ≡ suc (7 - depth) = omega arith in
-    opening s i (7 - depth) h e ∙ (rw k at g)
+    at-opening s i (7 - depth) h e ∙ (rw k at g)
 
+-- A place after a later one is after an earlier one.
 pub past-more : (at to : ℕ) (s : List ℕ) (r : Skip) → at ≤ to → Past to s r → Past at s r
 past-more at to s (At n) h p = (omega arith, p .1)
 past-more at to s Off h p = tt
 
+-- What is known where skipping ended at a place, and where it ended nowhere.
 pub past-at : (at : ℕ) (s : List ℕ) (r : Skip) (n : ℕ) → r ≡ At n → Past at s r → (at < n) × (n ≤ length s)
 past-at at s r n e p = rw e at p
 
