@@ -1,6 +1,6 @@
 -- A listing of breakpoints: on the front of its lists, and from there to the whole of the byte strings.
 use mathlib.Core.Path.{_≡_, refl, ap, sym, subst, _∙_}
-use mathlib.Core.Bool.{Bool, true, _&&_}
+use mathlib.Core.Bool.{Bool, true, false, _&&_}
 use mathlib.Core.Logic.{_⊎_}
 use mathlib.Core.List.{List, [], _∷_, _++_}
 use Prim.Native.Nat.{ℕ, _*_, _-_, _/_, _≤_, min}
@@ -19,7 +19,7 @@ use Rattle.select.proofs.Listings.{breakpoints-counted, breakpoints-refusal, br
 use Rattle.foldwig.specs.Paths.{breakpointsInBytes, breakpointsBytesOf}
 use Rattle.foldwig.specs.PathsInner.{Holds, breakpointsOverFront}
 use Rattle.foldwig.proofs.Cuts.{overwritten-cut, leb-take, same-cond, by-checks-cut}
-use Rattle.foldwig.proofs.Joins.{counted-items, counted-joined, front-back, front-written, on-layout}
+use Rattle.foldwig.proofs.Joins.{counted-items, counted-joined, front-back, front-written, off-layout, on-layout}
 use Rattle.foldwig.proofs.PathCuts.{enough-places, path-cut, few-within, valid-cut}
 
 -- An outcome with more at the end of its buffers.
@@ -91,6 +91,10 @@ breakpoints-keeps s l n x y r e h = sym (breakpoints-refused s l n x y r (e ∙ 
 
 -- A listing from two byte strings to two others.
 module _ (s l : List ℕ) (n : ℕ) (x y : List ℕ) where
+  pub breakpoints-eleven : (wholeItems 2 s && wholeItems 8 l && wholeItems 2 y && wholeItems 8 x) ≡ false → breakpointsRefused x y 11 ≡ breakpointsBytesOf s l n x y
+  unfolding breakpointsBytesOf
+  breakpoints-eleven h = off-layout (breakpointsRefused x y) _ (wholeItems 2 s && wholeItems 8 l && wholeItems 2 y && wholeItems 8 x) h
+
   pub breakpoints-bytes : (wholeItems 2 s && wholeItems 8 l) ≡ true → (wholeItems 2 y && wholeItems 8 x) ≡ true → Bytes x → Bytes y → (c a b d f : ℕ)
       → c ≡ min n maxModels → a ≡ min (length s / 2) c → b ≡ min (length l / 8) c → d ≡ min (length x / 8) c → f ≡ min (length y / 2) c
       → breakpointsOverFront d f x y (breakpointsOf (itemsTo 2 s a) (itemsTo 8 l b) n (itemsTo 8 x d) (itemsTo 2 y f)) ≡ breakpointsBytesOf s l n x y

@@ -1,7 +1,7 @@
 -- Appends, builds and selections from the front of byte strings to the whole of them: what the inner functions leave, and that the
 -- calls leave what their definitions say.
 use mathlib.Core.Path.{_≡_, ap, sym, subst, _∙_}
-use mathlib.Core.Bool.{true, _&&_}
+use mathlib.Core.Bool.{true, false, _&&_}
 use mathlib.Core.List.{List, _++_}
 use Prim.Native.Nat.{ℕ, suc, _+_, _*_, _-_, _/_, _≤_, min, max}
 use native.Mathlib.Omega.{arith}
@@ -17,10 +17,11 @@ use Rattle.path.proofs.Checks.{both}
 use Rattle.path.proofs.Cases.{append-refusal, append-refused}
 use Rattle.build.specs.Build.{countOf, buildOf}
 use Rattle.build.proofs.Cases.{build-refusal, build-refused}
-use Rattle.select.specs.Select.{selectOf}
+use Rattle.select.specs.Select.{selectRefused, selectOf}
+use Rattle.foldwig.specs.Numbers.{shorts, longs}
 use Rattle.foldwig.specs.Paths.{pathInBytes, appendBytesOf, buildBytesOf, selectBytesOf}
 use Rattle.foldwig.specs.PathsInner.{Holds, pathOverFront}
-use Rattle.foldwig.proofs.Joins.{counted-items, counted-joined, front-back, front-written, on-layout}
+use Rattle.foldwig.proofs.Joins.{counted-items, counted-joined, front-back, front-written, off-layout, on-layout}
 use Rattle.foldwig.proofs.PathCuts.{pathLonger, enough-places, append-cut, select-cut, build-cut}
 
 -- What an inner function leaves that made a call on two lists.
@@ -65,6 +66,10 @@ path-joined s l c a b bs bl whole ea eb o =
 
 -- An append on two byte strings.
 module _ (s l : List ℕ) (n : ℕ) (m : Model) where
+  pub append-eleven : (wholeItems 2 s && wholeItems 8 l) ≡ false → pathRefused s l 11 ≡ appendBytesOf s l n m
+  unfolding appendBytesOf
+  append-eleven h = off-layout (pathRefused s l) (pathInBytes (appendOf (shorts s) (longs l) n m)) (wholeItems 2 s && wholeItems 8 l) h
+
   pub append-bytes : Bytes s → Bytes l → (wholeItems 2 s && wholeItems 8 l) ≡ true → (c a b : ℕ) → c ≡ min n (maxModels - 1) + 1 → a ≡ min (length s / 2) c → b ≡ min (length l / 8) c
       → pathOverFront a b s l (appendOf (itemsTo 2 s a) (itemsTo 8 l b) n m) ≡ appendBytesOf s l n m
   unfolding appendBytesOf
@@ -78,6 +83,10 @@ module _ (s l : List ℕ) (n : ℕ) (m : Model) where
 
 -- A selection from two byte strings.
 module _ (s l : List ℕ) (n p q : ℕ) where
+  pub select-eleven : (wholeItems 2 s && wholeItems 8 l) ≡ false → selectRefused 11 ≡ selectBytesOf s l n p q
+  unfolding selectBytesOf
+  select-eleven h = off-layout selectRefused _ (wholeItems 2 s && wholeItems 8 l) h
+
   pub select-bytes : (wholeItems 2 s && wholeItems 8 l) ≡ true → (c a b : ℕ) → c ≡ min n maxModels → a ≡ min (length s / 2) c → b ≡ min (length l / 8) c
       → selectOf (itemsTo 2 s a) (itemsTo 8 l b) n p q ≡ selectBytesOf s l n p q
   unfolding selectBytesOf
@@ -94,6 +103,10 @@ models-near m n h =
 
 -- A build from two byte strings in two others.
 module _ (x y s l : List ℕ) where
+  pub build-eleven : (wholeItems 2 x && wholeItems 8 y && wholeItems 2 s && wholeItems 8 l) ≡ false → pathRefused s l 11 ≡ buildBytesOf x y s l
+  unfolding buildBytesOf
+  build-eleven h = off-layout (pathRefused s l) _ (wholeItems 2 x && wholeItems 8 y && wholeItems 2 s && wholeItems 8 l) h
+
   pub build-bytes : (wholeItems 2 x && wholeItems 8 y) ≡ true → (wholeItems 2 s && wholeItems 8 l) ≡ true → Bytes s → Bytes l → (a b most c d : ℕ)
       → a ≡ min (length x / 2) (maxModels + 1) → b ≡ min (length y / 8) (maxModels + 1) → most ≡ min (max a b) maxModels → c ≡ min (length s / 2) most → d ≡ min (length l / 8) most
       → pathOverFront c d s l (buildOf (itemsTo 2 x a) (itemsTo 8 y b) (itemsTo 2 s c) (itemsTo 8 l d)) ≡ buildBytesOf x y s l

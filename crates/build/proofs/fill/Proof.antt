@@ -3,6 +3,8 @@ use mathlib.Core.Path.{_≡_, ap, sym, subst}
 use Prim.Native.Nat.{ℕ, _-_, _≤_}
 use native.Mathlib.Omega.{arith}
 use lib.ListN.{length}
+use Rattle.path.specs.Model.{modelAt, pathOf}
+use Rattle.path.specs.Inner.{keptOf}
 use Rattle.path.specs.declared.Kept.{Kept}
 use Rattle.path.specs.declared.tally.Tally.{Tally}
 use Rattle.build.specs.Inner.{BuiltIn}
@@ -21,7 +23,8 @@ fits : (c : tie.After-try-model Inv-loop μ-loop) → c .try-model .result .entr
 fits c =
     let a = c .before .before .before .before .before .before .before .before .before .before .before .before .args in
     let lp = c .before .before .before .before .before .before .loop in
-    kept-before (a .sizes .now) (a .losses .now) (a .path-sizes .now) (a .path-losses .now) (lp .path-sizes) (lp .path-losses) (lp .entries) (lp .tests .count) (lp .i) (lp .inv .1) (c .before .before .before .before .before .before .before .before .before .before .before .before .pre) (c .before .before .before .before .before .loop-test .taken) (c .try-model .result .entries) (ap (λ (x : Kept). x .entries) (c .try-model .ensures))
+    let all = keptOf (pathOf (lp .path-sizes) (lp .path-losses) (lp .entries)) (modelAt (a .sizes .now) (a .losses .now) (lp .i)) (lp .tests .count) in
+    kept-before (a .sizes .now) (a .losses .now) (a .path-sizes .now) (a .path-losses .now) (lp .path-sizes) (lp .path-losses) (lp .entries) (lp .tests .count) (lp .i) (lp .inv .1) (c .before .before .before .before .before .before .before .before .before .before .before .before .pre) (c .before .before .before .before .before .loop-test .taken) (c .try-model .result .entries) (ap (λ (x : Kept). x .entries) {y = all} (c .try-model .ensures))
 
 none-requires : tie.Need-none-requires Inv-loop μ-loop
 none-requires c κs = tt
@@ -76,7 +79,8 @@ loop-again c =
     let a = c .before .before .before .before .before .before .before .before .before .before .before .before .before .args in
     let lp = c .before .before .before .before .before .before .before .loop in
     let found = c .before .try-model in
-    (omega arith, built-pushed (a .sizes .now) (a .losses .now) (a .path-sizes .now) (a .path-losses .now) (lp .path-sizes) (lp .path-losses) (lp .entries) (lp .tests .count) (lp .i) (lp .inv .1) (c .before .before .before .before .before .before .before .before .before .before .before .before .before .pre) (c .before .before .before .before .before .before .loop-test .taken) (found .result .entries) (ap (λ (x : Kept). x .entries) (found .ensures)) (found .result .tests .count) (ap (λ (x : Kept). x .tests .count) (found .ensures)))
+    let all = keptOf (pathOf (lp .path-sizes) (lp .path-losses) (lp .entries)) (modelAt (a .sizes .now) (a .losses .now) (lp .i)) (lp .tests .count) in
+    (omega arith, built-pushed (a .sizes .now) (a .losses .now) (a .path-sizes .now) (a .path-losses .now) (lp .path-sizes) (lp .path-losses) (lp .entries) (lp .tests .count) (lp .i) (lp .inv .1) (c .before .before .before .before .before .before .before .before .before .before .before .before .before .pre) (c .before .before .before .before .before .before .loop-test .taken) (found .result .entries) (ap (λ (x : Kept). x .entries) {y = all} (found .ensures)) (found .result .tests .count) (ap (λ (x : Kept). x .tests .count) {y = all} (found .ensures)))
 
 same-length : tie.Need-same-length Inv-loop μ-loop
 same-length c = c .before .loop .inv .1 .held .sizes .long

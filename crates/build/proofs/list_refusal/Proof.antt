@@ -5,7 +5,8 @@ use Prim.Native.Nat.{ℕ, _+_, _-_, _≤_}
 use native.Mathlib.Omega.{arith}
 use lib.ListN.{length}
 use borrow.Author.Tests.{not-true, not-false}
-use Rattle.path.specs.Refusal.{refusalOf}
+use Rattle.path.specs.Model.{modelAt, pathOf}
+use Rattle.path.specs.Refusal.{refusalOf, modelChecks}
 use Rattle.path.proofs.Checks.{AtLeast, room-parts}
 use Rattle.build.specs.Build.{listChecks}
 use Rattle.build.proofs.Lists.{none-left, bad-model, good-model, lacks-value, lacks-nothing}
@@ -64,7 +65,8 @@ returns-2 c =
     let lp = c .before .before .before .before .before .before .before .loop in
     let here = lacks-nothing (a .sizes .now) (a .losses .now) (lp .i) (sym (c .before .before .before .before .before .has-room .ensures) ∙ not-false _ (c .before .before .before .before .if1 .left)) in
     let r = c .before .model-refusal in
-    sym (bad-model (a .sizes .now) (a .losses .now) (lp .i) (a .count - lp .i) (r .result) (omega arith) (here ∙ sym (r .ensures)) (c .if2 .taken)) ∙ lp .inv .1
+    let k = refusalOf (modelChecks (pathOf (a .sizes .now) (a .losses .now) (lp .i)) (modelAt (a .sizes .now) (a .losses .now) (lp .i))) in
+    sym (bad-model (a .sizes .now) (a .losses .now) (lp .i) (a .count - lp .i) (r .result) (omega arith) (here ∙ sym {b = k} (r .ensures)) (c .if2 .taken)) ∙ lp .inv .1
 
 loop-less : tie.Need-loop-less Inv-loop μ-loop
 loop-less c = omega arith
@@ -75,7 +77,8 @@ loop-again c =
     let lp = c .before .before .before .before .before .before .before .loop in
     let here = lacks-nothing (a .sizes .now) (a .losses .now) (lp .i) (sym (c .before .before .before .before .before .has-room .ensures) ∙ not-false _ (c .before .before .before .before .if1 .left)) in
     let r = c .before .model-refusal in
-    (omega arith, sym (good-model (a .sizes .now) (a .losses .now) (lp .i) (a .count - lp .i) (a .count - (lp .i + 1)) (omega arith) (here ∙ sym (r .ensures) ∙ c .if2 .left)) ∙ lp .inv .1)
+    let k = refusalOf (modelChecks (pathOf (a .sizes .now) (a .losses .now) (lp .i)) (modelAt (a .sizes .now) (a .losses .now) (lp .i))) in
+    (omega arith, sym (good-model (a .sizes .now) (a .losses .now) (lp .i) (a .count - lp .i) (a .count - (lp .i + 1)) (omega arith) (here ∙ _∙_ {a = k} (sym {b = k} (r .ensures)) (c .if2 .left))) ∙ lp .inv .1)
 
 returns-3 : tie.Need-returns-3 Inv-loop μ-loop
 returns-3 c =

@@ -13,6 +13,7 @@ use Rattle.path.specs.Model.{model, pathOf}
 use Rattle.path.specs.Refusal.{check, refusalOf, maxModels, pathRoom, validPath, modelChecks}
 use Rattle.path.specs.Update.{kept}
 use Rattle.path.specs.Append.{pathOutcome}
+use Rattle.path.specs.Inner.{keptOf}
 use Rattle.path.proofs.Checks.{AtLeast, room-parts}
 use Rattle.path.proofs.Order.{Acceptable, acceptable}
 use Rattle.path.proofs.Cases.{input-refused, kept-small, room-refused, accepted}
@@ -105,8 +106,10 @@ returns-3 : tie.Need-returns-3
 returns-3 c =
     let a = c .before .before .before .before .before .before .before .before .before .before .before .before .before .before .before .before .before .before .before .before .before .args in
     let f = c .before .before .before .before .before .before .before .before .before .before .before .try-model in
-    let none = ap (λ (x : Tally). x .count) (c .before .before .before .before .before .before .before .before .before .before .before .before .none .ensures) in
-    accepted (a .sizes .now) (a .losses .now) (a .entries) (model (a .size) (a .loss)) (passes (c .before .before .before .before .before .before .before .before .before .before .before .before .before .before .before)) (f .result .entries) (stay (c .before .before .before .before .before .before .before .before .before .before .before)) (enough (c .before .before .before .before .before .before .before .before .before)) (f .result .tests .count) (c .before .before .before .before .before .before .before .store .last .0) (c .before .before .before .store2 .last .0) (omega (arith, ap (λ (x : Kept). x .tests .count) (f .ensures), none)) (c .before .before .before .before .before .before .before .store .ensures) (c .before .before .before .store2 .ensures)
+    let start = c .before .before .before .before .before .before .before .before .before .before .before .before .none in
+    let none = ap (λ (x : Tally). x .count) (start .ensures) in
+    let all = keptOf (pathOf (a .sizes .now) (a .losses .now) (a .entries)) (model (a .size) (a .loss)) (start .result .count) in
+    accepted (a .sizes .now) (a .losses .now) (a .entries) (model (a .size) (a .loss)) (passes (c .before .before .before .before .before .before .before .before .before .before .before .before .before .before .before)) (f .result .entries) (stay (c .before .before .before .before .before .before .before .before .before .before .before)) (enough (c .before .before .before .before .before .before .before .before .before)) (f .result .tests .count) (c .before .before .before .before .before .before .before .store .last .0) (c .before .before .before .store2 .last .0) (omega (arith, ap (λ (x : Kept). x .tests .count) {y = all} (f .ensures), none)) (c .before .before .before .before .before .before .before .store .ensures) (c .before .before .before .store2 .ensures)
 
 pub append-spec : {M : Type 1} → statement M
 append-spec =

@@ -4,8 +4,8 @@ use mathlib.Core.Path.{_≡_, refl, ap, sym, _∙_}
 use Prim.Native.Nat.{_+_, _-_, _≤_}
 use native.Mathlib.Omega.{arith}
 use lib.ListN.{length}
-use Rattle.path.specs.Model.{model, pathOf}
-use Rattle.path.specs.Update.{kept, testsMade}
+use Rattle.path.specs.Model.{model, modelAt, pathOf}
+use Rattle.path.specs.Update.{holds, kept, testsMade}
 use Rattle.path.specs.Inner.{tallyOf}
 use Rattle.path.specs.declared.tally.Tally.{Tally}
 use Rattle.path.proofs.Paths.{keeps-all, drops-last, first-not-dropped}
@@ -44,7 +44,8 @@ loop-again c =
     let lp = c .before .before .before .loop in
     let t = c .before .before .test in
     let m = model (a .size) (a .loss) in
-    let fails = sym (t .ensures .0) ∙ c .if1 .left in
+    let h = holds (pathOf (a .sizes .now) (a .losses .now) (lp .i - 1)) (modelAt (a .sizes .now) (a .losses .now) (lp .i - 1)) m in
+    let fails = _∙_ {a = h} (sym {b = h} (t .ensures .0)) (c .if1 .left) in
     let g = drops-last (a .sizes .now) (a .losses .now) m (lp .i) (lp .i - 1) (omega arith) fails in
     let made = ap (λ (x : Tally). x .count) (t .ensures .1) in
     let more = first-not-dropped (a .sizes .now) (a .losses .now) m (lp .i - 1) fails in
@@ -57,7 +58,8 @@ returns c =
     let t = c .before .before .test in
     let m = model (a .size) (a .loss) in
     let path = pathOf (a .sizes .now) (a .losses .now) (a .entries) in
-    let g = keeps-all (a .sizes .now) (a .losses .now) m (lp .i) (lp .i - 1) (omega arith) (sym (t .ensures .0) ∙ c .if1 .taken) in
+    let h = holds (pathOf (a .sizes .now) (a .losses .now) (lp .i - 1)) (modelAt (a .sizes .now) (a .losses .now) (lp .i - 1)) m in
+    let g = keeps-all (a .sizes .now) (a .losses .now) m (lp .i) (lp .i - 1) (omega arith) (_∙_ {a = h} (sym {b = h} (t .ensures .0)) (c .if1 .taken)) in
     let k : lp .i ≡ length (kept path m) = omega (arith, g .0, lp .inv .3) in
     let n : lp .tests .count + 1 ≡ a .start .count + testsMade path m = omega (arith, g .1, lp .inv .4) in
     let e : t .result .tests ≡ tallyOf (a .start .count + testsMade path m) = t .ensures .1 ∙ ap tallyOf n in

@@ -3,7 +3,9 @@ use mathlib.Core.Path.{sym, _∙_}
 use Prim.Native.Nat.{_-_, _<_}
 use lib.ListN.{length}
 use native.Mathlib.Omega.{arith}
+use Rattle.path.specs.Refusal.{refusalOf}
 use Rattle.path.proofs.Order.{valid-parts}
+use Rattle.select.specs.Select.{selectChecks}
 use Rattle.select.proofs.Walks.{selectable, selected-within, select-refused, select-done}
 use borrow.Author.Needs.{needs}
 use Rattle.select.proofs.select.Statement.{statement}
@@ -14,7 +16,8 @@ place : (c : tie.After-walk) → (c .walk .result < length (c .before .before .b
 place c =
     let a = c .before .before .before .before .before .args in
     let r = c .before .before .select-refusal in
-    let ok = selectable (a .sizes .now) (a .losses .now) (a .entries) (a .p) (a .q) (sym (r .ensures) ∙ c .before .if1 .left) in
+    let k = refusalOf (selectChecks (a .sizes .now) (a .losses .now) (a .entries) (a .p) (a .q)) in
+    let ok = selectable (a .sizes .now) (a .losses .now) (a .entries) (a .p) (a .q) (_∙_ {a = k} (sym {b = k} (r .ensures)) (c .before .if1 .left)) in
     let v = valid-parts (a .sizes .now) (a .losses .now) (a .entries) (ok .valid) in
     let w = selected-within (a .sizes .now) (a .losses .now) (a .p) (a .q) (a .entries - 1) 0 in
     (omega (arith, c .walk .ensures, ok .some), omega (arith, c .walk .ensures, ok .some))
@@ -32,7 +35,8 @@ walk-requires : tie.Need-walk-requires
 walk-requires c κs =
     let a = c .before .before .before .before .args in
     let r = c .before .select-refusal in
-    let ok = selectable (a .sizes .now) (a .losses .now) (a .entries) (a .p) (a .q) (sym (r .ensures) ∙ c .if1 .left) in
+    let k = refusalOf (selectChecks (a .sizes .now) (a .losses .now) (a .entries) (a .p) (a .q)) in
+    let ok = selectable (a .sizes .now) (a .losses .now) (a .entries) (a .p) (a .q) (_∙_ {a = k} (sym {b = k} (r .ensures)) (c .if1 .left)) in
     (ok .valid, ok .penalty, ok .some)
 
 mul-t9 : tie.Need-mul-t9
@@ -51,7 +55,8 @@ returns-2 : tie.Need-returns-2
 returns-2 c =
     let a = c .before .before .before .before .before .before .before .args in
     let r = c .before .before .before .before .select-refusal in
-    select-done (a .sizes .now) (a .losses .now) (a .entries) (a .p) (a .q) (sym (r .ensures) ∙ c .before .before .before .if1 .left) (c .before .before .walk .result) (c .before .before .walk .ensures)
+    let k = refusalOf (selectChecks (a .sizes .now) (a .losses .now) (a .entries) (a .p) (a .q)) in
+    select-done (a .sizes .now) (a .losses .now) (a .entries) (a .p) (a .q) (_∙_ {a = k} (sym {b = k} (r .ensures)) (c .before .before .before .if1 .left)) (c .before .before .walk .result) (c .before .before .walk .ensures)
 
 pub select-spec : {M : Type 1} → statement M
 select-spec =

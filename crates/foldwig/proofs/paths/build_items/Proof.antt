@@ -2,6 +2,7 @@
 use mathlib.Core.Path.{ap, _∙_}
 use native.Mathlib.Omega.{arith}
 use lib.ListN.{length}
+use Rattle.layout.specs.Items.{itemsTo}
 use Rattle.path.specs.Append.{PathOutcome}
 use Rattle.build.specs.Build.{buildOf}
 use Rattle.foldwig.proofs.PathJoins.{build-keeps, path-unwritten, path-written}
@@ -46,10 +47,16 @@ returns : tie.Need-returns
 returns c =
     let a = c .before .before .before .before .before .before .before .before .before .before .before .before .before .before .before .before .before .before .before .before .before .before .before .before .before .before .before .before .before .before .before .before .before .before .before .before .before .args in
     let made = c .before .before .before .before .before .before .build in
-    let is = made .ensures ∙ (λ i. buildOf (c .before .before .before .before .before .before .before .before .before .before .before .before .before .before .before .before .before .before .before .before .before .before .before .before .before .before .before .read-items .ensures i) (c .before .before .before .before .before .before .before .before .before .before .before .before .before .before .before .before .before .before .before .before .before .before .before .read-items2 .ensures i) (c .before .before .before .before .before .before .before .before .before .before .before .before .before .before .before .before .before .before .read-items3 .ensures i) (c .before .before .before .before .before .before .before .before .before .before .before .before .before .read-items4 .ensures i)) in
-    path-unwritten (a .path-sizes .now) (a .path-losses .now) (length (a .path-size-items .now)) (length (a .path-loss-items .now)) _ (made .result) _ _ is
+    let x = c .before .before .before .before .before .before .before .before .before .before .before .before .before .before .before .before .before .before .before .before .before .before .before .before .before .before .before .read-items in
+    let y = c .before .before .before .before .before .before .before .before .before .before .before .before .before .before .before .before .before .before .before .before .before .before .before .read-items2 in
+    let s = c .before .before .before .before .before .before .before .before .before .before .before .before .before .before .before .before .before .before .read-items3 in
+    let l = c .before .before .before .before .before .before .before .before .before .before .before .before .before .read-items4 in
+    let read = buildOf (x .last .1 .1 .0) (y .last .1 .1 .0) (s .last .1 .1 .0) (l .last .1 .1 .0) in
+    let o = buildOf (itemsTo 2 (a .sizes .now) (length (a .size-items .now))) (itemsTo 8 (a .losses .now) (length (a .loss-items .now))) (itemsTo 2 (a .path-sizes .now) (length (a .path-size-items .now))) (itemsTo 8 (a .path-losses .now) (length (a .path-loss-items .now))) in
+    let is = _∙_ {b = read} {c = o} (made .ensures) (λ i. buildOf (x .ensures i) (y .ensures i) (s .ensures i) (l .ensures i)) in
+    path-unwritten (a .path-sizes .now) (a .path-losses .now) (length (a .path-size-items .now)) (length (a .path-loss-items .now)) o (made .result) _ _ is
     (λ i. omega (arith, c .before .before .before .before .before .before .before .before .before .before .before .before .before .before .before .before .before .before .before .before .before .before .before .before .before .before .before .before .before .before .before .before .before .before .slice-known .given i)) (λ i. omega (arith, c .before .before .before .before .before .before .before .before .before .before .before .before .before .before .before .before .before .before .before .before .before .before .before .before .before .before .before .before .before .before .before .before .before .slice-known2 .given i)) (c .before .before .before .before .before .before .before .before .before .before .before .before .before .before .before .before .before .before .before .before .before .before .before .before .before .before .before .before .before .before .before .before .before .before .before .before .before .pre .1)
-    (build-keeps _ _ _ _ (made .result .refusal) (ap (λ (o : PathOutcome). o .refusal) is) (c .if1 .taken))
+    (build-keeps _ _ _ _ (made .result .refusal) (ap (λ (t : PathOutcome). t .refusal) {y = o} is) (c .if1 .taken))
 
 write-items-requires : tie.Need-write-items-requires
 write-items-requires c κs = omega (arith, c .before .before .before .before .before .before .before .before .before .before .before .before .before .before .before .before .before .before .before .before .before .before .before .before .before .before .before .before .before .before .before .before .before .before .before .before .before .before .before .pre .1 .in-shorts, c .before .before .before .before .before .before .before .before .build .kept .1 .1 .0, c .before .before .before .before .before .before .before .before .before .before .before .before .before .before .before .before .before .before .before .before .read-items3 .kept .1 .1 .0)
@@ -79,9 +86,15 @@ returns-2 : tie.Need-returns-2
 returns-2 c =
     let a = c .before .before .before .before .before .before .before .before .before .before .before .before .before .before .before .before .before .before .before .before .before .before .before .before .before .before .before .before .before .before .before .before .before .before .before .before .before .before .before .before .before .before .before .before .before .before .before .args in
     let made = c .before .before .before .before .before .before .before .before .before .before .before .before .before .before .before .before .build in
-    let is = made .ensures ∙ (λ i. buildOf (c .before .before .before .before .before .before .before .before .before .before .before .before .before .before .before .before .before .before .before .before .before .before .before .before .before .before .before .before .before .before .before .before .before .before .before .before .before .read-items .ensures i) (c .before .before .before .before .before .before .before .before .before .before .before .before .before .before .before .before .before .before .before .before .before .before .before .before .before .before .before .before .before .before .before .before .before .read-items2 .ensures i) (c .before .before .before .before .before .before .before .before .before .before .before .before .before .before .before .before .before .before .before .before .before .before .before .before .before .before .before .before .read-items3 .ensures i) (c .before .before .before .before .before .before .before .before .before .before .before .before .before .before .before .before .before .before .before .before .before .before .before .read-items4 .ensures i)) in
-    path-written (a .path-sizes .now) (a .path-losses .now) (length (a .path-size-items .now)) (length (a .path-loss-items .now)) _ (made .result) _ _ is _ _
-    (c .before .before .before .before .before .before .before .write-items .ensures) (c .before .before .write-items2 .ensures) (made .kept .1 .1 .0 ∙ c .before .before .before .before .before .before .before .before .before .before .before .before .before .before .before .before .before .before .before .before .before .before .before .before .before .before .before .before .read-items3 .kept .1 .1 .0) (made .kept .1 .1 .1 .0 ∙ c .before .before .before .before .before .before .before .before .before .before .before .before .before .before .before .before .before .before .before .before .before .before .before .read-items4 .kept .1 .1 .0)
+    let x = c .before .before .before .before .before .before .before .before .before .before .before .before .before .before .before .before .before .before .before .before .before .before .before .before .before .before .before .before .before .before .before .before .before .before .before .before .before .read-items in
+    let y = c .before .before .before .before .before .before .before .before .before .before .before .before .before .before .before .before .before .before .before .before .before .before .before .before .before .before .before .before .before .before .before .before .before .read-items2 in
+    let s = c .before .before .before .before .before .before .before .before .before .before .before .before .before .before .before .before .before .before .before .before .before .before .before .before .before .before .before .before .read-items3 in
+    let l = c .before .before .before .before .before .before .before .before .before .before .before .before .before .before .before .before .before .before .before .before .before .before .before .read-items4 in
+    let read = buildOf (x .last .1 .1 .0) (y .last .1 .1 .0) (s .last .1 .1 .0) (l .last .1 .1 .0) in
+    let o = buildOf (itemsTo 2 (a .sizes .now) (length (a .size-items .now))) (itemsTo 8 (a .losses .now) (length (a .loss-items .now))) (itemsTo 2 (a .path-sizes .now) (length (a .path-size-items .now))) (itemsTo 8 (a .path-losses .now) (length (a .path-loss-items .now))) in
+    let is = _∙_ {b = read} {c = o} (made .ensures) (λ i. buildOf (x .ensures i) (y .ensures i) (s .ensures i) (l .ensures i)) in
+    path-written (a .path-sizes .now) (a .path-losses .now) (length (a .path-size-items .now)) (length (a .path-loss-items .now)) o (made .result) _ _ is _ _
+    (c .before .before .before .before .before .before .before .write-items .ensures) (c .before .before .write-items2 .ensures) (made .kept .1 .1 .0 ∙ s .kept .1 .1 .0) (made .kept .1 .1 .1 .0 ∙ l .kept .1 .1 .0)
 
 pub build-items-spec : {M : Type 1} → statement M
 build-items-spec =

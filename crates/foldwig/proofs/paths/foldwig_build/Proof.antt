@@ -3,12 +3,14 @@ use mathlib.Core.Path.{_≡_, sym, _∙_}
 use mathlib.Core.Bool.{true, false, _&&_}
 use Prim.Native.Nat.{ℕ}
 use native.Mathlib.Omega.{arith}
+use lib.ListN.{length, take, replicate}
 use borrow.Author.Tests.{not-true, not-false}
-use Rattle.layout.specs.Items.{wholeItems}
-use Rattle.path.specs.Append.{pathRefused}
-use Rattle.foldwig.specs.Paths.{buildBytesOf}
-use Rattle.foldwig.proofs.Joins.{off-layout, repeated-front, counted-front}
-use Rattle.foldwig.proofs.PathJoins.{refused-eleven, build-bytes}
+use Rattle.layout.specs.Items.{itemsTo, wholeItems}
+use Rattle.path.specs.Append.{pathOutcome}
+use Rattle.build.specs.Build.{buildOf}
+use Rattle.foldwig.specs.PathsInner.{pathOverFront}
+use Rattle.foldwig.proofs.Joins.{repeated-front, counted-front}
+use Rattle.foldwig.proofs.PathJoins.{refused-eleven, build-eleven, build-bytes}
 use borrow.Author.Needs.{needs}
 use Rattle.foldwig.proofs.paths.foldwig_build.Statement.{statement}
 use Rattle.foldwig.proofs.paths.foldwig_build.Tie as tie
@@ -20,12 +22,11 @@ refuse-requires : tie.Need-refuse-requires
 refuse-requires c κs = search needs
 
 returns : tie.Need-returns
-unfolding buildBytesOf
 returns c =
     let a = c .before .before .before .before .before .before .before .args in
     let first : (wholeItems 2 (a .sizes .now) && wholeItems 8 (a .losses .now)) ≡ false = sym (c .before .before .whole-items .ensures) ∙ not-true _ (c .before .if1 .taken) in
     refused-eleven (c .refuse .result) (a .path-sizes .now) (a .path-losses .now) (c .refuse .ensures)
-    ∙ off-layout (pathRefused (a .path-sizes .now) (a .path-losses .now)) _ _ (rw first)
+    ∙ build-eleven (a .sizes .now) (a .losses .now) (a .path-sizes .now) (a .path-losses .now) (rw first)
 
 whole-items-requires-2 : tie.Need-whole-items-requires-2
 whole-items-requires-2 c κs = search needs
@@ -34,13 +35,12 @@ refuse-requires-2 : tie.Need-refuse-requires-2
 refuse-requires-2 c κs = search needs
 
 returns-2 : tie.Need-returns-2
-unfolding buildBytesOf
 returns-2 c =
     let a = c .before .before .before .before .before .before .before .before .before .args in
     let first : (wholeItems 2 (a .sizes .now) && wholeItems 8 (a .losses .now)) ≡ true = sym (c .before .before .before .before .whole-items .ensures) ∙ not-false _ (c .before .before .before .if1 .left) in
     let second : (wholeItems 2 (a .path-sizes .now) && wholeItems 8 (a .path-losses .now)) ≡ false = sym (c .before .before .whole-items2 .ensures) ∙ not-true _ (c .before .if2 .taken) in
     refused-eleven (c .refuse2 .result) (a .path-sizes .now) (a .path-losses .now) (c .refuse2 .ensures)
-    ∙ off-layout (pathRefused (a .path-sizes .now) (a .path-losses .now)) _ _ (rw first second)
+    ∙ build-eleven (a .sizes .now) (a .losses .now) (a .path-sizes .now) (a .path-losses .now) (rw first second)
 
 smaller-requires : tie.Need-smaller-requires
 smaller-requires c κs = search needs
@@ -116,12 +116,19 @@ returns-3 c =
     let most = c .before .before .before .before .before .before .before .before .before .before .before .before .before .before .before .before .before .smaller3 in
     let s = c .before .before .before .before .before .before .before .before .before .before .before .before .before .before .before .before .smaller4 in
     let l = c .before .before .before .before .before .before .before .before .before .before .before .before .before .before .before .smaller5 in
-    c .before .before .before .before .before .before .before .before .build-items .ensures
-    ∙ build-bytes (a .sizes .now) (a .losses .now) (a .path-sizes .now) (a .path-losses .now) (sym (c .before .before .before .before .before .before .before .before .before .before .before .before .before .before .before .before .before .before .before .before .before .before .before .before .whole-items .ensures) ∙ not-false _ (c .before .before .before .before .before .before .before .before .before .before .before .before .before .before .before .before .before .before .before .before .before .before .before .if1 .left)) (sym (c .before .before .before .before .before .before .before .before .before .before .before .before .before .before .before .before .before .before .before .before .before .before .whole-items2 .ensures) ∙ not-false _ (c .before .before .before .before .before .before .before .before .before .before .before .before .before .before .before .before .before .before .before .before .before .if2 .left))
-    (λ i. omega (arith, c .before .before .before .before .before .before .before .before .before .before .before .before .before .before .before .before .before .before .before .before .before .before .before .before .before .before .slice-known .given i)) (λ i. omega (arith, c .before .before .before .before .before .before .before .before .before .before .before .before .before .before .before .before .before .before .before .before .before .before .before .before .before .slice-known2 .given i)) _ _ (most .result) _ _
+    let d = length (take (x .result) (replicate {A = ℕ} 4097 0)) in
+    let e = length (take (y .result) (replicate {A = ℕ} 4097 0)) in
+    let f = length (take (s .result) (replicate {A = ℕ} 4096 0)) in
+    let g = length (take (l .result) (replicate {A = ℕ} 4096 0)) in
+    let made = c .before .before .before .before .before .before .before .before .build-items in
+    let left = pathOutcome (made .result) (made .last .1 .1 .0) (made .last .1 .1 .1 .0) in
+    let over = pathOverFront f g (a .path-sizes .now) (a .path-losses .now) (buildOf (itemsTo 2 (a .sizes .now) d) (itemsTo 8 (a .losses .now) e) (itemsTo 2 (a .path-sizes .now) f) (itemsTo 8 (a .path-losses .now) g)) in
+    _∙_ {a = left} {b = over} (made .ensures)
+    (build-bytes (a .sizes .now) (a .losses .now) (a .path-sizes .now) (a .path-losses .now) (sym (c .before .before .before .before .before .before .before .before .before .before .before .before .before .before .before .before .before .before .before .before .before .before .before .before .whole-items .ensures) ∙ not-false _ (c .before .before .before .before .before .before .before .before .before .before .before .before .before .before .before .before .before .before .before .before .before .before .before .if1 .left)) (sym (c .before .before .before .before .before .before .before .before .before .before .before .before .before .before .before .before .before .before .before .before .before .before .whole-items2 .ensures) ∙ not-false _ (c .before .before .before .before .before .before .before .before .before .before .before .before .before .before .before .before .before .before .before .before .before .if2 .left))
+    (λ i. omega (arith, c .before .before .before .before .before .before .before .before .before .before .before .before .before .before .before .before .before .before .before .before .before .before .before .before .before .before .slice-known .given i)) (λ i. omega (arith, c .before .before .before .before .before .before .before .before .before .before .before .before .before .before .before .before .before .before .before .before .before .before .before .before .before .slice-known2 .given i)) d e (most .result) f g
     (counted-front {A = ℕ} 0 4097 (x .result) _ _ (x .ensures) (omega arith)) (counted-front {A = ℕ} 0 4097 (y .result) _ _ (y .ensures) (omega arith))
     (omega (arith, most .ensures, big .ensures, x .ensures, y .ensures, counted-front {A = ℕ} 0 4097 (x .result) _ _ (x .ensures) (omega arith), counted-front {A = ℕ} 0 4097 (y .result) _ _ (y .ensures) (omega arith)))
-    (counted-front {A = ℕ} 0 4096 (s .result) _ _ (s .ensures) (omega (arith, most .ensures))) (counted-front {A = ℕ} 0 4096 (l .result) _ _ (l .ensures) (omega (arith, most .ensures)))
+    (counted-front {A = ℕ} 0 4096 (s .result) _ _ (s .ensures) (omega (arith, most .ensures))) (counted-front {A = ℕ} 0 4096 (l .result) _ _ (l .ensures) (omega (arith, most .ensures))))
 
 pub foldwig-build-spec : {M : Type 1} → statement M
 foldwig-build-spec =

@@ -6,8 +6,8 @@ use lib.IntN.{ℤ, pos}
 use lib.ListN.{length, take, replicate}
 use borrow.Author.Tests.{not-true, not-false}
 use Rattle.least.specs.Segmentation.{maxSegments}
-use Rattle.signal.specs.SignalPath.{PathBuffers, pathBuffers}
-use Rattle.foldwig.specs.SignalsInner.{readSamples, PathCounts, pathCounts}
+use Rattle.signal.specs.SignalPath.{PathBuffers, pathBuffers, signalPathOutcome}
+use Rattle.foldwig.specs.SignalsInner.{readSamples, PathCounts, pathCounts, signalPathOfFront}
 use Rattle.foldwig.proofs.SignalPaths.{smaller-front, PathRead, path-within, signal-path-joined, signal-path-eleven, signal-path-whole, path-is-whole}
 use borrow.Author.Needs.{needs}
 use Rattle.foldwig.proofs.signals.foldwig_signal_path.Statement.{statement}
@@ -88,14 +88,17 @@ returns-2 c =
     let start = c .before .before .before .before .before .before .before .before .before .before .before .before .before .before .before .before .before .before .before .before .before .before .before .before .before in
     let a = start .args in
     let whole = sym (c .before .before .before .before .before .before .before .before .before .before .before .before .before .before .before .before .before .before .before .before .path-whole .ensures) ∙ not-false _ (c .before .before .before .before .before .before .before .before .before .before .before .before .before .before .before .before .before .before .before .if1 .left) in
-    c .before .before .before .before .before .before .before .before .before .path-items .ensures
-    ∙ signal-path-joined _ (a .samples .now) (lent start)
+    let made = c .before .before .before .before .before .before .before .before .before .path-items in
+    let n = counts (c .before .before .before .before .before .before .before .before .before .before .before .before .before .before .before .before) in
+    let left = signalPathOutcome (made .result) (pathBuffers (made .last .1 .1 .0) (made .last .1 .1 .1 .0) (made .last .1 .1 .1 .1 .0)) in
+    _∙_ {a = left} {b = signalPathOfFront n (a .samples .now) (a .max-segments) (lent start)} (made .ensures)
+    (signal-path-joined n (a .samples .now) (lent start)
     record {
       sizes = λ i. omega (arith, c .before .before .before .before .before .before .before .before .before .before .before .before .before .before .before .before .before .before .before .before .before .before .before .slice-known .given i);
       losses = λ i. omega (arith, c .before .before .before .before .before .before .before .before .before .before .before .before .before .before .before .before .before .before .before .before .before .before .slice-known2 .given i);
     }
     (read (c .before .before .before .before .before .before .before .before .before .before .before .before .before .before .before .before)) (path-is-whole (a .samples .now) (a .max-segments) (lent start) whole) (a .max-segments)
-    ∙ signal-path-whole (a .samples .now) (a .max-segments) (lent start) whole
+    ∙ signal-path-whole (a .samples .now) (a .max-segments) (lent start) whole)
 
 pub foldwig-signal-path-spec : {M : Type 1} → statement M
 foldwig-signal-path-spec =

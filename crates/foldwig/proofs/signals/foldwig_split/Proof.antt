@@ -6,8 +6,8 @@ use lib.IntN.{ℤ, pos}
 use lib.ListN.{length, take, replicate}
 use borrow.Author.Tests.{not-true, not-false}
 use Rattle.least.specs.Segmentation.{maxSegments}
-use Rattle.foldwig.specs.Signals.{SplitByteBuffers, splitByteBuffers}
-use Rattle.foldwig.specs.SignalsInner.{readSamples, SplitCounts, splitCounts}
+use Rattle.foldwig.specs.Signals.{SplitByteBuffers, splitByteBuffers, splitWhole, splitByteOutcome}
+use Rattle.foldwig.specs.SignalsInner.{readSamples, SplitCounts, splitCounts, splitOfFront}
 use Rattle.foldwig.proofs.SignalPaths.{smaller-front}
 use Rattle.foldwig.proofs.SplitJoins.{SplitRead, split-within, split-joined, split-eleven, split-whole, split-is-whole}
 use borrow.Author.Needs.{needs}
@@ -52,7 +52,8 @@ returns : tie.Need-returns
 returns c =
     let start = c .before .before .before .before .before .before .before .before in
     let a = start .args in
-    split-eleven (a .samples .now) (a .max-segments) (a .p) (a .q) (lent start) (sym (c .before .split-whole .ensures) ∙ not-true _ (c .if1 .taken))
+    let w = splitWhole (a .samples .now) (lent start) in
+    split-eleven (a .samples .now) (a .max-segments) (a .p) (a .q) (lent start) (_∙_ {a = w} (sym {b = w} (c .before .split-whole .ensures)) (not-true _ (c .if1 .taken)))
 
 smaller-requires : tie.Need-smaller-requires
 smaller-requires c κs = search needs
@@ -121,9 +122,13 @@ returns-2 : tie.Need-returns-2
 returns-2 c =
     let start = c .before .before .before .before .before .before .before .before .before .before .before .before .before .before .before .before .before .before .before .before .before .before .before .before .before .before .before .before .before .before .before .before .before .before .before .before .before .before .before in
     let a = start .args in
-    let whole = sym (c .before .before .before .before .before .before .before .before .before .before .before .before .before .before .before .before .before .before .before .before .before .before .before .before .before .before .before .before .before .before .before .before .split-whole .ensures) ∙ not-false _ (c .before .before .before .before .before .before .before .before .before .before .before .before .before .before .before .before .before .before .before .before .before .before .before .before .before .before .before .before .before .before .before .if1 .left) in
-    c .before .before .before .before .before .before .before .before .before .before .before .before .before .before .before .split-items .ensures
-    ∙ split-joined _ (a .samples .now) (lent start)
+    let w = splitWhole (a .samples .now) (lent start) in
+    let whole = _∙_ {a = w} (sym {b = w} (c .before .before .before .before .before .before .before .before .before .before .before .before .before .before .before .before .before .before .before .before .before .before .before .before .before .before .before .before .before .before .before .before .split-whole .ensures)) (not-false _ (c .before .before .before .before .before .before .before .before .before .before .before .before .before .before .before .before .before .before .before .before .before .before .before .before .before .before .before .before .before .before .before .if1 .left)) in
+    let made = c .before .before .before .before .before .before .before .before .before .before .before .before .before .before .before .split-items in
+    let n = counts (c .before .before .before .before .before .before .before .before .before .before .before .before .before .before .before .before .before .before .before .before .before .before .before .before .before .before) in
+    let left = splitByteOutcome (made .result) (splitByteBuffers (made .last .1 .1 .1 .1 .0) (made .last .1 .1 .1 .1 .1 .0) (made .last .1 .1 .1 .1 .1 .1 .0) (made .last .1 .1 .1 .1 .1 .1 .1 .0) (made .last .1 .1 .1 .1 .1 .1 .1 .1 .0)) in
+    _∙_ {a = left} {b = splitOfFront n (a .samples .now) (a .max-segments) (a .p) (a .q) (lent start)} (made .ensures)
+    (split-joined n (a .samples .now) (lent start)
     record {
       starts = λ i. omega (arith, c .before .before .before .before .before .before .before .before .before .before .before .before .before .before .before .before .before .before .before .before .before .before .before .before .before .before .before .before .before .before .before .before .before .before .before .before .before .slice-known .given i);
       levels = λ i. omega (arith, c .before .before .before .before .before .before .before .before .before .before .before .before .before .before .before .before .before .before .before .before .before .before .before .before .before .before .before .before .before .before .before .before .before .before .before .before .slice-known2 .given i);
@@ -133,7 +138,7 @@ returns-2 c =
       };
     }
     (read (c .before .before .before .before .before .before .before .before .before .before .before .before .before .before .before .before .before .before .before .before .before .before .before .before .before .before)) (split-is-whole (a .samples .now) (a .max-segments) (a .p) (a .q) (lent start) whole) (a .max-segments) (a .p) (a .q)
-    ∙ split-whole (a .samples .now) (a .max-segments) (a .p) (a .q) (lent start) whole
+    ∙ split-whole (a .samples .now) (a .max-segments) (a .p) (a .q) (lent start) whole)
 
 pub foldwig-split-spec : {M : Type 1} → statement M
 foldwig-split-spec =

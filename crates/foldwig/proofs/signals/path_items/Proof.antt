@@ -3,7 +3,7 @@ use mathlib.Core.Path.{ap, _∙_}
 use native.Mathlib.Omega.{arith}
 use lib.ListN.{length}
 use Rattle.signal.specs.SignalPath.{PathBuffers, pathBuffers, signalPathOutcome, signalPathOf}
-use Rattle.foldwig.specs.SignalsInner.{PathCounts, pathCounts, signalPathOutcomeOver}
+use Rattle.foldwig.specs.SignalsInner.{PathCounts, pathCounts, firstSamples, pathItems, signalPathOutcomeOver}
 use Rattle.foldwig.proofs.SignalPaths.{path-written, signal-path-unwritten}
 use borrow.Author.Needs.{needs}
 use Rattle.foldwig.proofs.signals.path_items.Statement.{statement}
@@ -52,13 +52,19 @@ returns c =
     let start = c .before .before .before .before .before .before .before .before .before .before .before .before .before .before .before .before .before .before .before .before .before .before .before .before .before .before .before .before .before .before .before .before in
     let a = start .args in
     let made = c .before .before .before .before .before .before .before .before .signal-path in
-    let is = made .ensures .0 ∙ (λ i. signalPathOf (c .before .before .before .before .before .before .before .before .before .before .before .before .before .before .before .before .before .before .before .before .before .before .before .before .read-i16s .ensures i) (a .max-segments) (pathBuffers (c .before .before .before .before .before .before .before .before .before .before .before .before .before .before .before .before .before .before .before .before .read-items .ensures i) (c .before .before .before .before .before .before .before .before .before .before .before .before .before .before .before .read-items2 .ensures i) (a .scratch .now))) in
+    let after = pathBuffers (made .last .1 .1 .0) (made .last .1 .1 .1 .0) (made .last .1 .1 .1 .1 .0) in
+    let samples = c .before .before .before .before .before .before .before .before .before .before .before .before .before .before .before .before .before .before .before .before .before .before .before .before .read-i16s in
+    let sizes = c .before .before .before .before .before .before .before .before .before .before .before .before .before .before .before .before .before .before .before .before .read-items in
+    let losses = c .before .before .before .before .before .before .before .before .before .before .before .before .before .before .before .read-items2 in
+    let read = signalPathOf (samples .last .1 .0) (a .max-segments) (pathBuffers (sizes .last .1 .1 .0) (losses .last .1 .1 .0) (a .scratch .now)) in
+    let o = signalPathOf (firstSamples (counts start) (a .samples .now)) (a .max-segments) (pathItems (counts start) (lent start)) in
+    let is = _∙_ {a = signalPathOutcome (made .result) after} {b = read} {c = o} (made .ensures .0) (λ i. signalPathOf (samples .ensures i) (a .max-segments) (pathBuffers (sizes .ensures i) (losses .ensures i) (a .scratch .now))) in
     signal-path-unwritten (counts start) (a .samples .now) (lent start)
     record {
       sizes = λ i. omega (arith, c .before .before .before .before .before .before .before .before .before .before .before .before .before .before .before .before .before .before .before .before .before .before .before .before .before .before .before .before .before .before .slice-known .given i);
       losses = λ i. omega (arith, c .before .before .before .before .before .before .before .before .before .before .before .before .before .before .before .before .before .before .before .before .before .before .before .before .before .before .before .before .before .slice-known2 .given i);
     }
-    (start .pre) (a .max-segments) (made .result) _ is (c .if1 .taken)
+    (start .pre) (a .max-segments) (made .result) after is (c .if1 .taken)
 
 write-items-requires : tie.Need-write-items-requires
 write-items-requires c κs = search needs
@@ -89,12 +95,18 @@ returns-2 c =
     let start = c .before .before .before .before .before .before .before .before .before .before .before .before .before .before .before .before .before .before .before .before .before .before .before .before .before .before .before .before .before .before .before .before .before .before .before .before .before .before .before .before .before .before in
     let a = start .args in
     let made = c .before .before .before .before .before .before .before .before .before .before .before .before .before .before .before .before .before .before .signal-path in
-    let is = made .ensures .0 ∙ (λ i. signalPathOf (c .before .before .before .before .before .before .before .before .before .before .before .before .before .before .before .before .before .before .before .before .before .before .before .before .before .before .before .before .before .before .before .before .before .before .read-i16s .ensures i) (a .max-segments) (pathBuffers (c .before .before .before .before .before .before .before .before .before .before .before .before .before .before .before .before .before .before .before .before .before .before .before .before .before .before .before .before .before .before .read-items .ensures i) (c .before .before .before .before .before .before .before .before .before .before .before .before .before .before .before .before .before .before .before .before .before .before .before .before .before .read-items2 .ensures i) (a .scratch .now))) in
+    let after = pathBuffers (made .last .1 .1 .0) (made .last .1 .1 .1 .0) (made .last .1 .1 .1 .1 .0) in
+    let samples = c .before .before .before .before .before .before .before .before .before .before .before .before .before .before .before .before .before .before .before .before .before .before .before .before .before .before .before .before .before .before .before .before .before .before .read-i16s in
+    let sizes = c .before .before .before .before .before .before .before .before .before .before .before .before .before .before .before .before .before .before .before .before .before .before .before .before .before .before .before .before .before .before .read-items in
+    let losses = c .before .before .before .before .before .before .before .before .before .before .before .before .before .before .before .before .before .before .before .before .before .before .before .before .before .read-items2 in
+    let read = signalPathOf (samples .last .1 .0) (a .max-segments) (pathBuffers (sizes .last .1 .1 .0) (losses .last .1 .1 .0) (a .scratch .now)) in
+    let o = signalPathOf (firstSamples (counts start) (a .samples .now)) (a .max-segments) (pathItems (counts start) (lent start)) in
+    let is = _∙_ {a = signalPathOutcome (made .result) after} {b = read} {c = o} (made .ensures .0) (λ i. signalPathOf (samples .ensures i) (a .max-segments) (pathBuffers (sizes .ensures i) (losses .ensures i) (a .scratch .now))) in
     ap (signalPathOutcome (made .result))
-    (path-written (counts start) (lent start) _ _ _
-    (made .kept .1 .1 .0 ∙ c .before .before .before .before .before .before .before .before .before .before .before .before .before .before .before .before .before .before .before .before .before .before .before .before .before .before .before .before .before .before .read-items .kept .1 .1 .0) (made .kept .1 .1 .1 .0 ∙ c .before .before .before .before .before .before .before .before .before .before .before .before .before .before .before .before .before .before .before .before .before .before .before .before .before .read-items2 .kept .1 .1 .0)
+    (path-written (counts start) (lent start) after _ _
+    (made .kept .1 .1 .0 ∙ sizes .kept .1 .1 .0) (made .kept .1 .1 .1 .0 ∙ losses .kept .1 .1 .0)
     (c .before .before .before .before .before .before .before .write-items .ensures) (c .before .before .write-items2 .ensures))
-    ∙ ap (signalPathOutcomeOver (counts start) (lent start)) is
+    ∙ ap (signalPathOutcomeOver (counts start) (lent start)) {x = signalPathOutcome (made .result) after} {y = o} is
 
 pub path-items-spec : {M : Type 1} → statement M
 path-items-spec =

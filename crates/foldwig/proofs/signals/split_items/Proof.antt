@@ -2,9 +2,9 @@
 use mathlib.Core.Path.{_∙_}
 use native.Mathlib.Omega.{arith}
 use lib.ListN.{length}
-use Rattle.signal.specs.Split.{splitBuffers, splitOf}
+use Rattle.signal.specs.Split.{splitBuffers, splitOutcome, splitOf}
 use Rattle.foldwig.specs.Signals.{SplitByteBuffers, splitByteBuffers}
-use Rattle.foldwig.specs.SignalsInner.{SplitCounts, splitCounts}
+use Rattle.foldwig.specs.SignalsInner.{SplitCounts, splitCounts, firstSamples, splitItems}
 use Rattle.foldwig.proofs.SplitJoins.{split-written, split-unwritten}
 use borrow.Author.Needs.{needs}
 use Rattle.foldwig.proofs.signals.split_items.Statement.{statement}
@@ -71,7 +71,15 @@ returns c =
     let start = c .before .before .before .before .before .before .before .before .before .before .before .before .before .before .before .before .before .before .before .before .before .before .before .before .before .before .before .before .before .before .before .before .before .before .before .before .before .before .before .before .before .before .before .before .before .before .before .before .before in
     let a = start .args in
     let made = c .before .before .before .before .before .before .before .before .before .before .before .split in
-    let is = made .ensures .0 ∙ (λ i. splitOf (c .before .before .before .before .before .before .before .before .before .before .before .before .before .before .before .before .before .before .before .before .before .before .before .before .before .before .before .before .before .before .before .before .before .before .before .before .before .before .read-i16s .ensures i) (a .max-segments) (a .p) (a .q) (splitBuffers (c .before .before .before .before .before .before .before .before .before .before .before .before .before .before .before .before .before .before .before .before .before .before .before .before .before .before .before .before .before .before .before .before .before .before .read-u16s .ensures i) (c .before .before .before .before .before .before .before .before .before .before .before .before .before .before .before .before .before .before .before .before .before .before .before .before .before .before .before .before .before .read-i16s2 .ensures i) (c .before .before .before .before .before .before .before .before .before .before .before .before .before .before .before .before .before .before .before .before .before .before .before .before .before .read-items .ensures i) (c .before .before .before .before .before .before .before .before .before .before .before .before .before .before .before .before .before .before .before .before .read-items2 .ensures i) (a .scratch .now))) in
+    let after = splitBuffers (made .last .1 .1 .1 .1 .0) (made .last .1 .1 .1 .1 .1 .0) (made .last .1 .1 .1 .1 .1 .1 .0) (made .last .1 .1 .1 .1 .1 .1 .1 .0) (made .last .1 .1 .1 .1 .1 .1 .1 .1 .0) in
+    let samples = c .before .before .before .before .before .before .before .before .before .before .before .before .before .before .before .before .before .before .before .before .before .before .before .before .before .before .before .before .before .before .before .before .before .before .before .before .before .before .read-i16s in
+    let starts = c .before .before .before .before .before .before .before .before .before .before .before .before .before .before .before .before .before .before .before .before .before .before .before .before .before .before .before .before .before .before .before .before .before .before .read-u16s in
+    let levels = c .before .before .before .before .before .before .before .before .before .before .before .before .before .before .before .before .before .before .before .before .before .before .before .before .before .before .before .before .before .read-i16s2 in
+    let sizes = c .before .before .before .before .before .before .before .before .before .before .before .before .before .before .before .before .before .before .before .before .before .before .before .before .before .read-items in
+    let losses = c .before .before .before .before .before .before .before .before .before .before .before .before .before .before .before .before .before .before .before .before .read-items2 in
+    let read = splitOf (samples .last .1 .0) (a .max-segments) (a .p) (a .q) (splitBuffers (starts .last .1 .0) (levels .last .1 .0) (sizes .last .1 .1 .0) (losses .last .1 .1 .0) (a .scratch .now)) in
+    let o = splitOf (firstSamples (counts start .path) (a .samples .now)) (a .max-segments) (a .p) (a .q) (splitItems (counts start) (lent start)) in
+    let is = _∙_ {a = splitOutcome (made .result) after} {b = read} {c = o} (made .ensures .0) (λ i. splitOf (samples .ensures i) (a .max-segments) (a .p) (a .q) (splitBuffers (starts .ensures i) (levels .ensures i) (sizes .ensures i) (losses .ensures i) (a .scratch .now))) in
     split-unwritten (counts start) (a .samples .now) (lent start)
     record {
       starts = λ i. omega (arith, c .before .before .before .before .before .before .before .before .before .before .before .before .before .before .before .before .before .before .before .before .before .before .before .before .before .before .before .before .before .before .before .before .before .before .before .before .before .before .before .before .before .before .before .before .before .before .before .slice-known .given i);
@@ -81,7 +89,7 @@ returns c =
         losses = λ i. omega (arith, c .before .before .before .before .before .before .before .before .before .before .before .before .before .before .before .before .before .before .before .before .before .before .before .before .before .before .before .before .before .before .before .before .before .before .before .before .before .before .before .before .before .before .before .before .slice-known4 .given i);
       };
     }
-    (start .pre) (a .max-segments) (a .p) (a .q) (made .result) _ is (c .if1 .taken)
+    (start .pre) (a .max-segments) (a .p) (a .q) (made .result) after is (c .if1 .taken)
 
 write-u16s-requires : tie.Need-write-u16s-requires
 write-u16s-requires c κs = omega (arith, c .before .before .before .before .before .before .before .before .before .before .before .before .before .before .before .before .before .before .before .before .before .before .before .before .before .before .before .before .before .before .before .before .before .before .before .before .before .before .before .before .before .before .before .before .before .before .before .before .before .before .before .pre .starts-have, c .before .before .before .before .before .before .before .before .before .before .before .before .before .split .kept .1 .1 .1 .1 .0, c .before .before .before .before .before .before .before .before .before .before .before .before .before .before .before .before .before .before .before .before .before .before .before .before .before .before .before .before .before .before .before .before .before .before .before .before .read-u16s .kept .1 .0)
@@ -130,12 +138,20 @@ returns-2 c =
     let start = c .before .before .before .before .before .before .before .before .before .before .before .before .before .before .before .before .before .before .before .before .before .before .before .before .before .before .before .before .before .before .before .before .before .before .before .before .before .before .before .before .before .before .before .before .before .before .before .before .before .before .before .before .before .before .before .before .before .before .before .before .before .before .before .before .before .before .before .before .before in
     let a = start .args in
     let made = c .before .before .before .before .before .before .before .before .before .before .before .before .before .before .before .before .before .before .before .before .before .before .before .before .before .before .before .before .before .before .before .split in
-    let is = made .ensures .0 ∙ (λ i. splitOf (c .before .before .before .before .before .before .before .before .before .before .before .before .before .before .before .before .before .before .before .before .before .before .before .before .before .before .before .before .before .before .before .before .before .before .before .before .before .before .before .before .before .before .before .before .before .before .before .before .before .before .before .before .before .before .before .before .before .before .read-i16s .ensures i) (a .max-segments) (a .p) (a .q) (splitBuffers (c .before .before .before .before .before .before .before .before .before .before .before .before .before .before .before .before .before .before .before .before .before .before .before .before .before .before .before .before .before .before .before .before .before .before .before .before .before .before .before .before .before .before .before .before .before .before .before .before .before .before .before .before .before .before .read-u16s .ensures i) (c .before .before .before .before .before .before .before .before .before .before .before .before .before .before .before .before .before .before .before .before .before .before .before .before .before .before .before .before .before .before .before .before .before .before .before .before .before .before .before .before .before .before .before .before .before .before .before .before .before .read-i16s2 .ensures i) (c .before .before .before .before .before .before .before .before .before .before .before .before .before .before .before .before .before .before .before .before .before .before .before .before .before .before .before .before .before .before .before .before .before .before .before .before .before .before .before .before .before .before .before .before .before .read-items .ensures i) (c .before .before .before .before .before .before .before .before .before .before .before .before .before .before .before .before .before .before .before .before .before .before .before .before .before .before .before .before .before .before .before .before .before .before .before .before .before .before .before .before .read-items2 .ensures i) (a .scratch .now))) in
-    let starts-long = made .kept .1 .1 .1 .1 .0 ∙ c .before .before .before .before .before .before .before .before .before .before .before .before .before .before .before .before .before .before .before .before .before .before .before .before .before .before .before .before .before .before .before .before .before .before .before .before .before .before .before .before .before .before .before .before .before .before .before .before .before .before .before .before .before .before .read-u16s .kept .1 .0 in
-    let levels-long = made .kept .1 .1 .1 .1 .1 .0 ∙ c .before .before .before .before .before .before .before .before .before .before .before .before .before .before .before .before .before .before .before .before .before .before .before .before .before .before .before .before .before .before .before .before .before .before .before .before .before .before .before .before .before .before .before .before .before .before .before .before .before .read-i16s2 .kept .1 .0 in
-    let sizes-long = made .kept .1 .1 .1 .1 .1 .1 .0 ∙ c .before .before .before .before .before .before .before .before .before .before .before .before .before .before .before .before .before .before .before .before .before .before .before .before .before .before .before .before .before .before .before .before .before .before .before .before .before .before .before .before .before .before .before .before .before .read-items .kept .1 .1 .0 in
-    let losses-long = made .kept .1 .1 .1 .1 .1 .1 .1 .0 ∙ c .before .before .before .before .before .before .before .before .before .before .before .before .before .before .before .before .before .before .before .before .before .before .before .before .before .before .before .before .before .before .before .before .before .before .before .before .before .before .before .before .read-items2 .kept .1 .1 .0 in
-    split-written (counts start) (lent start) _ (made .result) _ is _ _ _ _ starts-long levels-long sizes-long losses-long
+    let after = splitBuffers (made .last .1 .1 .1 .1 .0) (made .last .1 .1 .1 .1 .1 .0) (made .last .1 .1 .1 .1 .1 .1 .0) (made .last .1 .1 .1 .1 .1 .1 .1 .0) (made .last .1 .1 .1 .1 .1 .1 .1 .1 .0) in
+    let samples = c .before .before .before .before .before .before .before .before .before .before .before .before .before .before .before .before .before .before .before .before .before .before .before .before .before .before .before .before .before .before .before .before .before .before .before .before .before .before .before .before .before .before .before .before .before .before .before .before .before .before .before .before .before .before .before .before .before .before .read-i16s in
+    let starts = c .before .before .before .before .before .before .before .before .before .before .before .before .before .before .before .before .before .before .before .before .before .before .before .before .before .before .before .before .before .before .before .before .before .before .before .before .before .before .before .before .before .before .before .before .before .before .before .before .before .before .before .before .before .before .read-u16s in
+    let levels = c .before .before .before .before .before .before .before .before .before .before .before .before .before .before .before .before .before .before .before .before .before .before .before .before .before .before .before .before .before .before .before .before .before .before .before .before .before .before .before .before .before .before .before .before .before .before .before .before .before .read-i16s2 in
+    let sizes = c .before .before .before .before .before .before .before .before .before .before .before .before .before .before .before .before .before .before .before .before .before .before .before .before .before .before .before .before .before .before .before .before .before .before .before .before .before .before .before .before .before .before .before .before .before .read-items in
+    let losses = c .before .before .before .before .before .before .before .before .before .before .before .before .before .before .before .before .before .before .before .before .before .before .before .before .before .before .before .before .before .before .before .before .before .before .before .before .before .before .before .before .read-items2 in
+    let read = splitOf (samples .last .1 .0) (a .max-segments) (a .p) (a .q) (splitBuffers (starts .last .1 .0) (levels .last .1 .0) (sizes .last .1 .1 .0) (losses .last .1 .1 .0) (a .scratch .now)) in
+    let o = splitOf (firstSamples (counts start .path) (a .samples .now)) (a .max-segments) (a .p) (a .q) (splitItems (counts start) (lent start)) in
+    let is = _∙_ {a = splitOutcome (made .result) after} {b = read} {c = o} (made .ensures .0) (λ i. splitOf (samples .ensures i) (a .max-segments) (a .p) (a .q) (splitBuffers (starts .ensures i) (levels .ensures i) (sizes .ensures i) (losses .ensures i) (a .scratch .now))) in
+    let starts-long = made .kept .1 .1 .1 .1 .0 ∙ starts .kept .1 .0 in
+    let levels-long = made .kept .1 .1 .1 .1 .1 .0 ∙ levels .kept .1 .0 in
+    let sizes-long = made .kept .1 .1 .1 .1 .1 .1 .0 ∙ sizes .kept .1 .1 .0 in
+    let losses-long = made .kept .1 .1 .1 .1 .1 .1 .1 .0 ∙ losses .kept .1 .1 .0 in
+    split-written (counts start) (lent start) o (made .result) after is _ _ _ _ starts-long levels-long sizes-long losses-long
     (c .before .before .before .before .before .before .before .before .before .before .before .before .before .before .before .before .before .write-u16s .ensures) (c .before .before .before .before .before .before .before .before .before .before .before .before .write-i16s .ensures) (c .before .before .before .before .before .before .before .write-items .ensures) (c .before .before .write-items2 .ensures)
 
 pub split-items-spec : {M : Type 1} → statement M

@@ -3,6 +3,7 @@ use mathlib.Core.Path.{_≡_, refl, sym, _∙_}
 use Prim.Native.Nat.{suc, _-_}
 use native.Mathlib.Omega.{arith}
 use Rattle.path.specs.Model.{model, modelAt}
+use Rattle.path.specs.Update.{below, breakpoint}
 use Rattle.path.proofs.Paths.{first-holds, later-holds}
 use borrow.Author.Needs.{needs}
 use Rattle.path.proofs.tally.test.Statement.{statement}
@@ -56,7 +57,10 @@ returns-2 : tie.Need-returns-2
 returns-2 c =
     let a = c .before .before .before .before .before .before .before .before .before .args in
     let n = a .entries in
-    (c .candidate-below .ensures ∙ sym (later-holds (a .sizes .now) (a .losses .now) (modelAt (a .sizes .now) (a .losses .now) (n - 1)) (model (a .size) (a .loss)) (n - 1) (n - 2) (omega arith)), refl)
+    let e = modelAt (a .sizes .now) (a .losses .now) (n - 1) in
+    let m = model (a .size) (a .loss) in
+    let b = below (breakpoint e m) (breakpoint (modelAt (a .sizes .now) (a .losses .now) (n - 2)) e) in
+    (_∙_ {b = b} (c .candidate-below .ensures) (sym (later-holds (a .sizes .now) (a .losses .now) e m (n - 1) (n - 2) (omega arith))), refl)
 
 pub test-spec : {M : Type 1} → statement M
 test-spec =
