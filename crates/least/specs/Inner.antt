@@ -1,14 +1,15 @@
 -- The contracts of inner functions. They are no part of what a reader must believe.
--- They say what stands in memory while least losses are computed: a row of losses, the table of starts in the scratch, and what each
+-- They say what stands in memory while least losses are computed: two rows of losses, the table of starts in the scratch, and what each
 -- function asks for and leaves. A start in the table is the number of samples before the last segment, as `lastStart` has it.
 use mathlib.Core.Path.{_≡_}
 use Prim.Native.Nat.{ℕ, suc, _+_, _*_, _-_, _≤_, _<_}
 use mathlib.Core.List.{List}
 use lib.IntN.{ℤ}
 use lib.ListN.{length, getD, take}
+use lib.Seq.{slice}
 use Rattle.layout.specs.Item.{item}
-use Rattle.segment.specs.Segment.{maxSamples, Samples16}
-use Rattle.segment.specs.Inner.{maxSquare, cellCount, Summed}
+use Rattle.segment.specs.Segment.{maxSamples, Samples16, segmentLoss}
+use Rattle.segment.specs.Inner.{maxSquare, cellCount, Summed, LossReady}
 use Rattle.least.specs.Segmentation.{maxSegments, lossWithLast, lastStart, least, startsOf, chosenOf}
 use Rattle.least.specs.Scratch.{scratchLen}
 
@@ -28,28 +29,60 @@ pub record StartsAre (xs : List ℤ) (m : ℕ) (scratch : List ℕ) : Type 0 whe
 abbrev pub rowOf : List ℕ → ℕ → ℕ
 rowOf row i = getD row i 0
 
--- What a search for the last segment's start asks for: the prefix sums, at least one place from low on before the segment's end, and a
--- row of losses that are small enough to add to.
-pub record PickFrom (xs : List ℤ) (sums squares row : List ℕ) (low to : ℕ) : Type 0 where
-  pub ready : Summed xs sums squares
+-- What a search for the last segment's start works on: what losses are had from, at least one place from low on before the segment's
+-- end, the row of the losses before the segment, small enough to add to, and the row of one segment more over fewer samples, none of
+-- whose losses exceeds what the old row gives with a last segment.
+pub record PickFrom (xs : List ℤ) (sums squares recips old row : List ℕ) (low to : ℕ) : Type 0 where
+  pub ready : LossReady xs sums squares recips
   pub some : low < to
   pub within : to ≤ length xs
+  pub len-old : length old ≡ cellCount
   pub len-row : length row ≡ cellCount
-  pub row-low : (i : ℕ) → low ≤ i → i < to → getD row i 0 ≤ maxSquare * i
+  pub old-low : (i : ℕ) → low ≤ i → i < to → getD old i 0 ≤ maxSquare * i
+  pub past : (t i : ℕ) → low ≤ t → t < i → i < to → getD row i 0 ≤ lossWithLast xs (rowOf old) i t
+
+-- What such a search asks for: a start at hand as well.
+pub record SeedFrom (xs : List ℤ) (sums squares recips old row : List ℕ) (low s to : ℕ) : Type 0 where
+  pub pick : PickFrom xs sums squares recips old row low to
+  pub above : low ≤ s
+  pub below : s < to
+
+-- A start to search down from, with its segment's own loss: no later start is better.
+pub record Seeded (xs : List ℤ) (old : List ℕ) (low to own start : ℕ) : Type 0 where
+  pub above : low ≤ start
+  pub below : start < to
+  pub own-is : own ≡ segmentLoss (slice start to xs)
+  pub later : (t : ℕ) → start < t → t < to → lossWithLast xs (rowOf old) to start ≤ lossWithLast xs (rowOf old) to t
+
+-- What the search down from a seed asks for.
+pub record DownFrom (xs : List ℤ) (sums squares recips old row : List ℕ) (low to own from : ℕ) : Type 0 where
+  pub pick : PickFrom xs sums squares recips old row low to
+  pub seed : Seeded xs old low to own from
 
 -- What such a search finds: the earliest of the best starts, and the loss with it.
-pub record Picked (xs : List ℤ) (row : List ℕ) (low to loss start : ℕ) : Type 0 where
-  pub start-is : start ≡ lastStart xs (rowOf row) low to
-  pub loss-is : loss ≡ lossWithLast xs (rowOf row) to start
+pub record Picked (xs : List ℤ) (old : List ℕ) (low to loss start : ℕ) : Type 0 where
+  pub start-is : start ≡ lastStart xs (rowOf old) low to
+  pub loss-is : loss ≡ lossWithLast xs (rowOf old) to start
+
+-- What the copy of the cells 1 to n of a row asks for.
+pub record CopyFrom (n : ℕ) (from to : List ℕ) : Type 0 where
+  pub short : n ≤ maxSamples
+  pub len-from : length from ≡ cellCount
+  pub len-to : length to ≡ cellCount
+
+-- What it leaves: these cells of one row are those of the other.
+pub record Copied (n : ℕ) (from to : List ℕ) : Type 0 where
+  pub same : (i : ℕ) → 0 < i → i ≤ n → getD to i 0 ≡ getD from i 0
 
 -- What the step from m + 1 to m + 2 segments asks for.
-pub record NextFrom (xs : List ℤ) (sums squares row scratch : List ℕ) (m : ℕ) : Type 0 where
-  pub ready : Summed xs sums squares
+pub record NextFrom (xs : List ℤ) (sums squares recips old row scratch : List ℕ) (m : ℕ) : Type 0 where
+  pub ready : LossReady xs sums squares recips
   pub few : m + 1 < maxSegments
   pub more : m + 1 < length xs
+  pub len-old : length old ≡ cellCount
   pub len-row : length row ≡ cellCount
   pub len-scratch : scratchLen ≤ length scratch
-  pub row-is : RowIs xs m row
+  pub old-is : RowIs xs m old
 
 -- What it leaves: the next row, row m of the table, and the rows before as they were.
 pub record NextRow (xs : List ℤ) (m : ℕ) (row before after : List ℕ) : Type 0 where
@@ -58,11 +91,12 @@ pub record NextRow (xs : List ℤ) (m : ℕ) (row before after : List ℕ) : Typ
   pub kept : (i : ℕ) → i < startPlace m 1 → getD after i 0 ≡ getD before i 0
 
 -- What the fill of all rows for 1 to k segments asks for.
-pub record RowsFrom (xs : List ℤ) (sums squares row losses scratch : List ℕ) (k : ℕ) : Type 0 where
-  pub ready : Summed xs sums squares
+pub record RowsFrom (xs : List ℤ) (sums squares recips old row losses scratch : List ℕ) (k : ℕ) : Type 0 where
+  pub ready : LossReady xs sums squares recips
   pub some : 0 < k
   pub few : k ≤ maxSegments
   pub enough : k ≤ length xs
+  pub len-old : length old ≡ cellCount
   pub len-row : length row ≡ cellCount
   pub len-losses : k ≤ length losses
   pub len-scratch : scratchLen ≤ length scratch

@@ -1,18 +1,19 @@
 // Least losses of a signal by dynamic programming: the least loss of each number of segments, a table of segment starts in scratch
-// bytes, and the segmentation that the table spells. A row of losses is kept for one number of segments and updated in place.
+// bytes, and the segmentation that the table spells. Two rows of losses are kept, of one number of segments and of the one before.
 ghost use mathlib.Core.Path.{_≡_};
 ghost use mathlib.Core.List.{_++_};
 ghost use Prim.Native.Nat.{min};
 ghost use lib.ListN.{length, drop};
-ghost use Rattle.segment.specs.Inner.{cellCount, Summed};
+ghost use Rattle.segment.specs.Inner.{cellCount, LossReady};
 ghost use Rattle.least.specs.Segmentation.{startsOf, levelsOf, chosenOf};
-ghost use Rattle.least.specs.Inner.{PickFrom, Picked, NextFrom, NextRow, RowIs, RowsFrom, Table, TableFrom};
-ghost use Rattle.least.specs.Inner.{TraceFrom, LevelsFrom, LevelsReady};
+ghost use Rattle.least.specs.Inner.{SeedFrom, Seeded, DownFrom, Picked, CopyFrom, Copied, NextFrom, NextRow, RowIs, RowsFrom};
+ghost use Rattle.least.specs.Inner.{Table, TableFrom, TraceFrom, LevelsFrom, LevelsReady};
 use layout::get_u16;
 use layout::put_u16;
 use segment::CELLS;
 use segment::MAX_SAMPLES;
 use segment::prefix_sums;
+use segment::reciprocals;
 use segment::segment_level;
 use segment::segment_loss;
 
@@ -29,36 +30,80 @@ struct LastSegment {
     start: usize,
 }
 
-// The earliest best start, not before low, of a last segment that ends at to, where row has the losses of what stands before it.
-// A segment's loss only grows as it is extended to the left, so the search ends where that alone exceeds the best so far. Where
-// low itself has no loss, as in a signal that does not change, nothing is better or earlier.
-fn pick_start(
+// A start to search down from, no later one being better: the number of samples before the last segment, and that segment's own loss.
+struct Seed {
+    own: u64,
+    start: usize,
+}
+
+// The seed for a search of a last segment that ends at to, from any start s at hand: s itself where no later start is better, else
+// the last of those that are. The losses of what stands before the segment are in old, those of one segment more in row. Where
+// row[i] and the loss from i on are not less than the sum of s, no start between s and i is better than s.
+fn seed_from(
     samples: &[i16],
     sums: &[u32],
     squares: &[u64],
+    recips: &[u64],
+    old: &[u64],
+    row: &[u64],
+    low: usize,
+    s: usize,
+    to: usize,
+) -> Seed
+    requires { ⌜ SeedFrom (now samples) (now sums) (now squares) (now recips) (now old) (now row) low s to ⌝ }
+    ensures { λ r. ⌜ Seeded (now (samples .entry)) (now (old .entry)) low to (r .own) (r .start) ⌝ }
+{
+    let seed = Seed {
+        own: segment_loss(samples, sums, squares, recips, s, to),
+        start: s,
+    };
+    let bound = old[s] + seed.own;
+    if bound == 0 {
+        return seed;
+    }
+    let mut i = to;
+    while s + 1 < i {
+        i -= 1;
+        let own = segment_loss(samples, sums, squares, recips, i, to);
+        if old[i] + own < bound {
+            return Seed { own, start: i };
+        }
+        if bound <= row[i] + own {
+            return seed;
+        }
+    }
+    seed
+}
+
+// The earliest best start, not before low, from a seed down. Where row[i] and the loss from i on exceed the best so far, so do the
+// sums of all starts before i: a segment costs at least as much as its parts before and after i, and the part before i, with what
+// stands before it, at least row[i].
+fn down_from(
+    samples: &[i16],
+    sums: &[u32],
+    squares: &[u64],
+    recips: &[u64],
+    old: &[u64],
     row: &[u64],
     low: usize,
     to: usize,
+    own: u64,
+    from: usize,
 ) -> LastSegment
-    requires { ⌜ PickFrom (now samples) (now sums) (now squares) (now row) low to ⌝ }
-    ensures { λ r. ⌜ Picked (now (samples .entry)) (now (row .entry)) low to (r .loss) (r .start) ⌝ }
+    requires { ⌜ DownFrom (now samples) (now sums) (now squares) (now recips) (now old) (now row) low to own from ⌝ }
+    ensures { λ r. ⌜ Picked (now (samples .entry)) (now (old .entry)) low to (r .loss) (r .start) ⌝ }
 {
-    if row[low] + segment_loss(samples, sums, squares, low, to) == 0 {
-        return LastSegment {
-            loss: 0,
-            start: low,
-        };
-    }
-    let mut i = to - 1;
+    let mut i = from;
+    let mut tail = own;
     let mut start = i;
-    let mut least = row[i] + segment_loss(samples, sums, squares, i, to);
+    let mut least = old[i] + tail;
     while low < i {
-        i -= 1;
-        let own = segment_loss(samples, sums, squares, i, to);
-        if least < own {
+        if least < row[i] + tail {
             return LastSegment { loss: least, start };
         }
-        let sum = row[i] + own;
+        i -= 1;
+        tail = segment_loss(samples, sums, squares, recips, i, to);
+        let sum = old[i] + tail;
         if sum <= least {
             least = sum;
             start = i;
@@ -67,41 +112,88 @@ fn pick_start(
     LastSegment { loss: least, start }
 }
 
-// The losses of m + 2 segments from those of m + 1, in place from the end, and row m of the table of starts.
+// The earliest best start, not before low, of a last segment that ends at to. The search begins at any start s at hand.
+fn pick_start(
+    samples: &[i16],
+    sums: &[u32],
+    squares: &[u64],
+    recips: &[u64],
+    old: &[u64],
+    row: &[u64],
+    low: usize,
+    s: usize,
+    to: usize,
+) -> LastSegment
+    requires { ⌜ SeedFrom (now samples) (now sums) (now squares) (now recips) (now old) (now row) low s to ⌝ }
+    ensures { λ r. ⌜ Picked (now (samples .entry)) (now (old .entry)) low to (r .loss) (r .start) ⌝ }
+{
+    let seed = seed_from(samples, sums, squares, recips, old, row, low, s, to);
+    down_from(
+        samples,
+        sums,
+        squares,
+        recips,
+        old,
+        row,
+        low,
+        to,
+        seed.own,
+        seed.start,
+    )
+}
+
+// The losses of m + 2 segments from those of m + 1, and row m of the table of starts. Each search begins at the start found for the end
+// before.
 fn next_row(
     samples: &[i16],
     sums: &[u32],
     squares: &[u64],
+    recips: &[u64],
+    old: &[u64],
     row: &mut [u64],
     scratch: &mut [u8],
     m: usize,
 )
-    requires { ⌜ NextFrom (now samples) (now sums) (now squares) (now row) (now scratch) m ⌝ }
+    requires { ⌜ NextFrom (now samples) (now sums) (now squares) (now recips) (now old) (now row) (now scratch) m ⌝ }
     ensures { λ r. ⌜
         NextRow (now (samples .entry)) m (now (row .exit)) (now (scratch .entry)) (now (scratch .exit))
         ⌝ }
 {
     let low = m + 1;
     let base = MAX_SAMPLES * m;
-    let mut j = samples.len();
-    while low < j {
-        let last = pick_start(samples, sums, squares, row, low, j);
+    let mut j = low;
+    let mut s = low;
+    while j < samples.len() {
+        let last = pick_start(samples, sums, squares, recips, old, row, low, s, j + 1);
+        s = last.start;
+        put_u16(scratch, 2 * (base + j), s as u16);
+        j += 1;
         row[j] = last.loss;
-        j -= 1;
-        put_u16(scratch, 2 * (base + j), last.start as u16);
+    }
+}
+
+// Copies the cells 1 to n of a row.
+fn copy_row(from: &[u64], to: &mut [u64], n: usize)
+    requires { ⌜ CopyFrom n (now from) (now to) ⌝ }
+    ensures { λ r. ⌜ Copied n (now (from .entry)) (now (to .exit)) ⌝ }
+{
+    let mut i = 0;
+    while i < n {
+        i += 1;
+        to[i] = from[i];
     }
 }
 
 // The losses of one segment over the first j samples, for each j.
-fn first_row(samples: &[i16], sums: &[u32], squares: &[u64], row: &mut [u64])
-    requires { ⌜ Summed (now samples) (now sums) (now squares) × (length (now row) ≡ cellCount) ⌝ }
+fn first_row(samples: &[i16], sums: &[u32], squares: &[u64], recips: &[u64], row: &mut [u64])
+    requires { ⌜ LossReady (now samples) (now sums) (now squares) (now recips) × (length (now row) ≡ cellCount) ⌝ }
     ensures { λ r. ⌜ RowIs (now (samples .entry)) 0 (now (row .exit)) ⌝ }
 {
     let n = samples.len();
     let mut j = 0;
     while j < n {
         j += 1;
-        row[j] = segment_loss(samples, sums, squares, 0, j);
+        row[j] = segment_loss(samples, sums, squares, recips, 0, j);
     }
 }
 
@@ -110,19 +202,24 @@ fn all_rows(
     samples: &[i16],
     sums: &[u32],
     squares: &[u64],
+    recips: &[u64],
+    old: &mut [u64],
     row: &mut [u64],
     losses: &mut [u64],
     scratch: &mut [u8],
     k: usize,
 )
-    requires { ⌜ RowsFrom (now samples) (now sums) (now squares) (now row) (now losses) (now scratch) k ⌝ }
+    requires { ⌜
+        RowsFrom (now samples) (now sums) (now squares) (now recips) (now old) (now row) (now losses) (now scratch) k
+        ⌝ }
     ensures { λ r. ⌜ Table (now (samples .entry)) k (now (losses .exit)) (now (scratch .exit)) ⌝ }
 {
     let n = samples.len();
     losses[0] = row[n];
     let mut m = 0;
     while m + 1 < k {
-        next_row(samples, sums, squares, row, scratch, m);
+        copy_row(row, old, n);
+        next_row(samples, sums, squares, recips, old, row, scratch, m);
         m += 1;
         losses[m] = row[n];
     }
@@ -150,11 +247,24 @@ pub fn fill_table(
 {
     let mut sums = [0u32; CELLS];
     let mut squares = [0u64; CELLS];
+    let mut recips = [0u64; CELLS];
+    let mut old = [0u64; CELLS];
     let mut row = [0u64; CELLS];
     prefix_sums(samples, &mut sums, &mut squares);
-    first_row(samples, &sums, &squares, &mut row);
+    reciprocals(samples.len(), &mut recips);
+    first_row(samples, &sums, &squares, &recips, &mut row);
     let k = smaller(max_segments, samples.len());
-    all_rows(samples, &sums, &squares, &mut row, losses, scratch, k);
+    all_rows(
+        samples,
+        &sums,
+        &squares,
+        &recips,
+        &mut old,
+        &mut row,
+        losses,
+        scratch,
+        k,
+    );
     k
 }
 

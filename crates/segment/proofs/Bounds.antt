@@ -1,6 +1,7 @@
 -- Samples of 16 bits: raised by 32,768 they are below 65,536, so sums over a segment and its loss are bounded, its level is
--- of 16 bits too, and its loss is had from the sums of the raised samples and of their squares.
-use mathlib.Core.Path.{_≡_, refl}
+-- of 16 bits too, its raised level is the level of the raised samples, and its loss is had from the sums of the raised samples and of
+-- their squares.
+use mathlib.Core.Path.{_≡_, refl, ap}
 use Prim.Native.Nat.{ℕ, suc, _+_, _*_, _≤_, _<_}
 use native.Mathlib.Nat.{mul-add, add-mul, mul-comm, suc-mul, zero-mul, mul-zero, lt-of-mul-lt-mul-left, le-of-mul-le-mul-left, mul-le-mul}
 use native.Mathlib.Omega.{arith}
@@ -9,10 +10,10 @@ use lib.IntN.{ℤ, pos, negsuc, _+ℤ_, _-ℤ_}
 use lib.Signed.{mag}
 use lib.ListN.{length, getD}
 use lib.Seq.{slice, length-slice, getD-take, getD-drop}
-use Rattle.segment.specs.Segment.{Sample16, Samples16, square, total, lossAt, levelOf, segmentLoss}
+use Rattle.segment.specs.Segment.{Sample16, Samples16, level, square, total, lossAt, levelOf, segmentLoss}
 use Rattle.segment.specs.Inner.{offset, maxRaised, maxSquare, raised, raisedSquare, sumOf, raisedSum, raisedSquares}
 use Rattle.segment.proofs.Integers.{P, N, PN-add, PN-minus, PN-le, le-PN, not-negative, natAbs-PN, mag-PN}
-use Rattle.segment.proofs.Nearest.{level-near}
+use Rattle.segment.proofs.Nearest.{level-near, near-unique}
 use Rattle.segment.proofs.Optimal.{level-least}
 use Rattle.segment.proofs.Sums.{sumOf-low}
 
@@ -99,6 +100,17 @@ level-small xs h small =
     let lo : N l + N l ≤ P l + P l + 65537 = le-of-mul-le-mul-left {k = n} (simp (mul-add, mul-comm n 65537) (omega arith)) h in
     let hi : P l + P l < N l + N l + 65535 = lt-of-mul-lt-mul-left n (simp (mul-add, mul-comm n 65535) (omega arith)) in
     PN-sample l (omega arith) (omega arith)
+
+-- The level of the raised samples is the raised level: it is near their mean, and there is only one such number.
+pub raised-level : (xs : List ℤ) → 0 < length xs → Samples16 xs → level (pos (raisedSum xs)) (length xs) ≡ pos (raised (levelOf xs))
+raised-level xs h small =
+    let n = length xs in
+    let s = raisedSum xs in
+    let l = levelOf xs in
+    let near = level-near (total xs) n h in
+    let t = total-PN xs small in
+    let e : n * (P l + offset) ≡ n * (raised l + N l) = ap (λ (x : ℕ). n * x) (raised-PN l (level-small xs h small)) in
+    near-unique (pos s) n (level (pos s) n) (pos (raised l)) (level-near (pos s) n h) (record { above = omega arith; below = omega arith })
 
 -- A segment's loss is at most that at level -32,768, where the samples are the raised ones.
 pub segment-low : (xs : List ℤ) → 0 < length xs → Samples16 xs → segmentLoss xs ≤ maxSquare * length xs

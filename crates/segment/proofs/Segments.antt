@@ -8,10 +8,10 @@ use mathlib.Core.List.{List}
 use lib.IntN.{ℤ, pos, natAbs, _-ℤ_}
 use lib.ListN.{length, getD}
 use lib.Seq.{slice, length-slice}
-use Rattle.segment.specs.Segment.{maxSamples, Sample16, Samples16, total, levelOf, segmentLoss}
+use Rattle.segment.specs.Segment.{maxSamples, Sample16, Samples16, level, total, levelOf, segmentLoss}
 use Rattle.segment.specs.Inner.{offset, maxRaised, maxSquare, raised, raisedSquare, raisedSum, raisedSquares, SegmentIn}
 use Rattle.segment.proofs.Integers.{PN-minus, ext, natAbs-le-PN}
-use Rattle.segment.proofs.Bounds.{slice-small, raised-PN, raised-low, total-PN, raisedSum-low, raisedSquares-low, loss-raised, level-small}
+use Rattle.segment.proofs.Bounds.{slice-small, raised-PN, raised-low, total-PN, raisedSum-low, raisedSquares-low, loss-raised, level-small, raised-level}
 use Rattle.segment.proofs.Sums.{sumOf-slice}
 
 -- A segment and its prefix sums.
@@ -45,6 +45,10 @@ module _ {samples : List ℤ} {sums squares : List ℕ} {from to : ℕ} (b : Bet
   pub sum-low : getD sums to 0 - getD sums from 0 ≤ maxRaised * maxSamples
   sum-low = omega (arith, raisedSum-low segment (b .small))
 
+  -- It is at most the largest raised sample for each.
+  pub sum-each : getD sums to 0 - getD sums from 0 ≤ maxRaised * (to - from)
+  sum-each = omega (arith, raisedSum-low segment (b .small))
+
   -- The sum of the samples is that of the raised ones, less 32,768 for each.
   pub total-is : pos (getD sums to 0 - getD sums from 0) -ℤ pos (offset * (to - from)) ≡ total segment
   total-is =
@@ -62,6 +66,12 @@ module _ {samples : List ℤ} {sums squares : List ℕ} {from to : ℕ} (b : Bet
   -- The level is a sample.
   pub level-fits : Sample16 (levelOf segment)
   level-fits = level-small segment (omega arith) (b .small)
+
+  -- The raised level is the level of the raised samples.
+  pub raised-level-is : level (pos (getD sums to 0 - getD sums from 0)) (to - from) ≡ pos (raised (levelOf segment))
+  raised-level-is =
+      let s : raisedSum segment ≡ getD sums to 0 - getD sums from 0 = omega arith in
+      rw (← s, ← (b .len)) (raised-level segment (omega arith) (b .small))
 
   -- The terms of the loss, with v the raised level.
   pub record Terms (v : ℕ) : Type 0 where

@@ -1,4 +1,4 @@
--- The contracts of inner functions: prefix sums of a signal. They are no part of what a reader must believe.
+-- The contracts of inner functions: prefix sums of a signal, and reciprocals. They are no part of what a reader must believe.
 -- Each sample is raised by 32,768, so that all sums are natural numbers. Cell j of a buffer is the sum over the first j samples, so a
 -- segment's sum is the difference of two cells.
 use mathlib.Core.Path.{_≡_}
@@ -61,5 +61,41 @@ pub record Summed (samples : List ℤ) (sums squares : List ℕ) : Type 0 where
 -- What a segment's level and loss are had from: prefix sums, and a segment of samples from + 1 to to that is not empty.
 pub record SegmentIn (samples : List ℤ) (sums squares : List ℕ) (from to : ℕ) : Type 0 where
   pub ready : Summed samples sums squares
+  pub some : from < to
+  pub within : to ≤ length samples
+
+-- The number whose quotients are the reciprocals, 2^36.
+abbrev pub reciprocalOne : ℕ
+reciprocalOne = 68719476736
+
+-- The number r is 2^36 / 2 n, rounded up.
+pub record Reciprocal (n r : ℕ) : Type 0 where
+  pub reaches : reciprocalOne ≤ 2 * n * r
+  pub tight : 2 * n * r < reciprocalOne + 2 * n
+
+-- What `reciprocals` asks for.
+pub record ReciprocalsFrom (count : ℕ) (recips : List ℕ) : Type 0 where
+  pub short : count ≤ maxSamples
+  pub len-recips : length recips ≡ cellCount
+
+-- What it leaves: cell n has the reciprocal of 2 n, for each n from 1 to count.
+pub record Reciprocals (count : ℕ) (recips : List ℕ) : Type 0 where
+  pub room : ReciprocalsFrom count recips
+  pub are : (n : ℕ) → 0 < n → n ≤ count → Reciprocal n (getD recips n 0)
+
+-- What the level of n raised samples is had from: the reciprocal for n, and a sum that is not too large.
+pub record QuotientFrom (recips : List ℕ) (sum n : ℕ) : Type 0 where
+  pub some : 0 < n
+  pub recips-are : Reciprocals n recips
+  pub sum-low : sum ≤ maxRaised * n
+
+-- What losses are had from: the prefix sums, and the reciprocals up to the number of samples.
+pub record LossReady (samples : List ℤ) (sums squares recips : List ℕ) : Type 0 where
+  pub summed : Summed samples sums squares
+  pub recips-are : Reciprocals (length samples) recips
+
+-- What the loss of the segment of samples from + 1 to to is had from.
+pub record LossIn (samples : List ℤ) (sums squares recips : List ℕ) (from to : ℕ) : Type 0 where
+  pub ready : LossReady samples sums squares recips
   pub some : from < to
   pub within : to ≤ length samples

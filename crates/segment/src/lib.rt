@@ -7,6 +7,7 @@ ghost use lib.Signed.{_≤ℤ_};
 ghost use lib.Seq.{slice};
 ghost use Rattle.segment.specs.Segment.{maxSamples, level, levelOf, segmentLoss};
 ghost use Rattle.segment.specs.Inner.{offset, maxRaised, raised, SumsFrom, Summed, SegmentIn};
+ghost use Rattle.segment.specs.Inner.{ReciprocalsFrom, Reciprocals, QuotientFrom, LossIn};
 
 // The most samples that a signal has.
 pub const MAX_SAMPLES: usize = 512;
@@ -16,6 +17,9 @@ pub const CELLS: usize = MAX_SAMPLES + 1;
 
 // What a sample is raised by.
 const OFFSET: i32 = 32768;
+
+// The number whose quotients are the reciprocals, 2^36.
+const RECIPROCAL_ONE: u64 = 68719476736;
 
 // The whole number nearest sum / len; of two equally near, the lower.
 fn level(sum: i32, len: i32) -> i32
@@ -72,14 +76,43 @@ pub fn segment_level(samples: &[i16], sums: &[u32], squares: &[u64], from: usize
     level(sum - OFFSET * n, n) as i16
 }
 
-// The loss of the same segment, at its level.
-pub fn segment_loss(samples: &[i16], sums: &[u32], squares: &[u64], from: usize, to: usize) -> u64
-    requires { ⌜ SegmentIn (now samples) (now sums) (now squares) from to ⌝ }
+// For each n from 1 to count the reciprocal of 2 n: 2^36 / 2 n, rounded up.
+pub fn reciprocals(count: usize, recips: &mut [u64])
+    requires { ⌜ ReciprocalsFrom count (now recips) ⌝ }
+    ensures { λ r. ⌜ Reciprocals count (now (recips .exit)) ⌝ }
+{
+    let mut n = 0;
+    while n < count {
+        n += 1;
+        let twice = 2 * n as u64;
+        recips[n] = (RECIPROCAL_ONE - 1 + twice) / twice;
+    }
+}
+
+// The level of n raised samples whose sum is sum, (2 sum + n - 1) / 2 n, with no division: the reciprocal is so near that the product
+// with it, divided by 2^36, has the same quotient.
+fn raised_level(recips: &[u64], sum: u32, n: usize) -> u64
+    requires { ⌜ QuotientFrom (now recips) sum n ⌝ }
+    ensures { λ r. ⌜ pos r ≡ level (pos sum) n ⌝ }
+{
+    (2 * sum as u64 + n as u64 - 1) * recips[n] / RECIPROCAL_ONE
+}
+
+// The loss of the same segment, at its level. The level of the raised samples is the raised level.
+pub fn segment_loss(
+    samples: &[i16],
+    sums: &[u32],
+    squares: &[u64],
+    recips: &[u64],
+    from: usize,
+    to: usize,
+) -> u64
+    requires { ⌜ LossIn (now samples) (now sums) (now squares) (now recips) from to ⌝ }
     ensures { λ r. ⌜ r ≡ segmentLoss (slice from to (now (samples .entry))) ⌝ }
 {
-    let v = raise(segment_level(samples, sums, squares, from, to)) as u64;
-    let n = (to - from) as u64;
-    let sum = (sums[to] - sums[from]) as u64;
+    let n = to - from;
+    let sum = sums[to] - sums[from];
+    let v = raised_level(recips, sum, n);
     let square = squares[to] - squares[from];
-    square + n * (v * v) - 2 * (v * sum)
+    square + n as u64 * (v * v) - 2 * (v * sum as u64)
 }
