@@ -1,72 +1,20 @@
--- A listing of breakpoints: on the front of its lists, and from there to the whole of the byte strings.
-use mathlib.Core.Path.{_≡_, refl, ap, sym, subst, _∙_}
-use mathlib.Core.Bool.{Bool, true, _&&_}
-use mathlib.Core.Logic.{_⊎_}
-use mathlib.Core.List.{List, [], _∷_, _++_}
-use Prim.Native.Nat.{ℕ, _*_, _-_, _/_, _≤_, min}
-use native.Mathlib.Omega.{arith}
-use lib.ListN.{length, take, drop, take-append-drop}
+-- A listing of breakpoints from the front of its byte strings to the whole of them.
+use mathlib.Core.Path.{_≡_, ap, sym, subst, _∙_}
+use mathlib.Core.Bool.{true, _&&_}
+use mathlib.Core.List.{List, _++_}
+use Prim.Native.Nat.{ℕ, _*_, _/_, min}
+use lib.ListN.{length, drop}
 use Rattle.layout.specs.Items.{Bytes, itemsTo, itemsOf, bytesOf, wholeItems}
-use Rattle.path.specs.Model.{pathOf}
-use Rattle.path.specs.Update.{Fraction, pathBreakpoints}
-use Rattle.path.specs.Refusal.{check, refusalOf, maxModels, roomFor, validPath}
-use Rattle.path.proofs.Paths.{length-values}
-use Rattle.path.proofs.Order.{valid-parts}
+use Rattle.path.specs.Refusal.{maxModels}
 use Rattle.path.proofs.Checks.{both}
-use Rattle.select.specs.Breakpoints.{BreakpointsOutcome, breakpointsOutcome, breakpointsRefused, breakpointsLeft, numeratorsOf, denominatorsOf, breakpointsChecks, breakpointsOf}
+use Rattle.path.proofs.PathCuts.{enough-places}
+use Rattle.select.specs.Breakpoints.{BreakpointsOutcome, breakpointsOutcome, breakpointsRefused, breakpointsOf}
 use Rattle.select.specs.declared.BreakpointsResult.{BreakpointsResult}
-use Rattle.select.proofs.Listings.{breakpoints-counted, breakpoints-refusal, breakpoints-refused, listable}
+use Rattle.select.proofs.Listings.{breakpoints-refusal, breakpoints-refused}
+use Rattle.select.proofs.SelectCuts.{breakpointsLonger, breakpoints-cut}
 use Rattle.foldwig.specs.Paths.{breakpointsInBytes, breakpointsBytesOf}
 use Rattle.foldwig.specs.PathsInner.{Holds, breakpointsOverFront}
-use Rattle.foldwig.proofs.Cuts.{overwritten-cut, leb-take, same-cond, by-checks-cut}
 use Rattle.foldwig.proofs.Joins.{counted-items, counted-joined, front-back, front-written, on-layout}
-use Rattle.foldwig.proofs.PathCuts.{enough-places, path-cut, few-within, valid-cut}
-
--- An outcome with more at the end of its buffers.
-abbrev breakpointsLonger : List ℕ → List ℕ → BreakpointsOutcome → BreakpointsOutcome
-breakpointsLonger numerators denominators o =
-    record { refusal = o .refusal; count = o .count; numerators = o .numerators ++ numerators; denominators = o .denominators ++ denominators }
-
--- The listing looks at the entries, and at as many places as there are entries.
-module _ (c : ℕ) (s l : List ℕ) (n : ℕ) (x y : List ℕ) (enough : (n ≤ c) ⊎ (maxModels ≤ c)) where
-  abbrev refusal : ℕ
-  refusal = refusalOf (breakpointsChecks s l n (length x) (length y))
-
-  -- There are fewer breakpoints than entries.
-  breakpoints-few : length (pathBreakpoints (pathOf s l n)) ≤ n
-  breakpoints-few = omega (arith, breakpoints-counted s l n (n - 1) refl)
-
-  same-refusal : refusalOf (breakpointsChecks (take c s) (take c l) n (length (take c x)) (length (take c y))) ≡ refusal
-  unfolding refusalOf
-  same-refusal =
-      ap (λ (b : Bool). refusalOf (check 8 b ∷ check 9 (roomFor (length (pathBreakpoints (pathOf (take c s) (take c l) n))) (length (take c x) ∷ length (take c y) ∷ [])) ∷ [])) (valid-cut c s l n enough)
-      ∙ same-cond (validPath s l n) _ _ 8
-      (λ v.
-      let w = few-within c s l n enough (valid-parts s l n v .few) in
-      let k = length (pathBreakpoints (pathOf s l n)) in
-      let path = path-cut c s l n w in
-      let room : roomFor k (length (take c x) ∷ length (take c y) ∷ []) ≡ roomFor k (length x ∷ length y ∷ []) = rw (leb-take k c x (omega (arith, breakpoints-few)), leb-take k c y (omega (arith, breakpoints-few))) in
-      (λ i. refusalOf (check 9 (roomFor (length (pathBreakpoints (path i))) (length (take c x) ∷ length (take c y) ∷ [])) ∷ []))
-      ∙ (λ i. refusalOf (check 9 (room i) ∷ [])))
-
-  left-cut : refusal ≡ 0 → breakpointsLeft (pathBreakpoints (pathOf s l n)) x y ≡ breakpointsLonger (drop c x) (drop c y) (breakpointsLeft (pathBreakpoints (pathOf (take c s) (take c l) n)) (take c x) (take c y))
-  left-cut e =
-      let v = listable s l n x y e (n - 1) refl .valid in
-      let w = few-within c s l n enough (valid-parts s l n v .few) in
-      let bs = pathBreakpoints (pathOf s l n) in
-      let path = sym (path-cut c s l n w) in
-      let few = breakpoints-few in
-      let numerators = overwritten-cut (numeratorsOf bs) c x (omega (arith, length-values (λ (b : Fraction). b .numerator) bs)) in
-      let denominators = overwritten-cut (denominatorsOf bs) c y (omega (arith, length-values (λ (b : Fraction). b .denominator) bs)) in
-      (λ i. record { refusal = 0; count = length bs; numerators = numerators i; denominators = denominators i })
-      ∙ (λ i. breakpointsLonger (drop c x) (drop c y) (breakpointsLeft (pathBreakpoints (path i)) (take c x) (take c y)))
-
-  breakpoints-cut : breakpointsOf s l n x y ≡ breakpointsLonger (drop c x) (drop c y) (breakpointsOf (take c s) (take c l) n (take c x) (take c y))
-  unfolding breakpointsOf
-  breakpoints-cut =
-      by-checks-cut (breakpointsLonger (drop c x) (drop c y)) (breakpointsChecks s l n (length x) (length y)) (breakpointsChecks (take c s) (take c l) n (length (take c x)) (length (take c y))) (breakpointsRefused x y) (breakpointsRefused (take c x) (take c y)) _ _ same-refusal
-      (λ r i. breakpointsRefused (sym (take-append-drop c x) i) (sym (take-append-drop c y) i) r)
-      left-cut
 
 -- What the inner function leaves that made the listing on lists.
 module _ (x y : List ℕ) (a b : ℕ) (o : BreakpointsOutcome) (made : BreakpointsResult) (x' y' : List ℕ) (e : breakpointsOutcome made x' y' ≡ o) where
