@@ -1,7 +1,7 @@
 -- What a selection or a listing of breakpoints leaves on longer lists is what it leaves on their front, with the rest kept: each looks
 -- at no more entries than it is told, and at no more than there may be models.
 use mathlib.Core.Path.{_≡_, refl, ap, sym, _∙_}
-use mathlib.Core.Bool.{Bool, true}
+use mathlib.Core.Bool.{Bool}
 use mathlib.Core.Logic.{_⊎_}
 use mathlib.Core.List.{List, [], _∷_, _++_}
 use Prim.Native.Nat.{ℕ, zero, suc, _+_, _-_, _≤_, _<_}

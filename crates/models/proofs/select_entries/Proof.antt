@@ -19,7 +19,7 @@ use ghost.Atoms.{Atoms, sem}
 use sound.WpLaws.{FmC, fmOf, WpFn-mono}
 use contract.Monad.{Fun, fact}
 use contract.Running.{givenOf, tables, tablesOf}
-use types.Kit.{Given, Item, Sq, runs, ‵, raw, some, given, later, mean, _⊛_, ⋆, atRet, _$_, _∵_, !, qed, by, move, keep, drop, use1, use2, use3, split, split3, join, pick, learn, await, rewrite, show, check, fsplit, fjoin, suffices, frame, updating, now as at-once, done}
+use types.Kit.{Given, Item, Sq, runs, ‵, raw, some, given, later, mean, _⊛_, ⋆, atRet, _$_, _∵_, !, qed, by, move, keep, use1, use2, use3, split, split3, join, pick, learn, await, rewrite, show, check, fsplit, fjoin, suffices, frame, updating, now as at-once, done}
 use types.Part.{agg}
 use types.Run.{look, init, forget, stop, from, load, lit, addr, and-then, no-more, assigns, land, returns, enter, alloc1, alloc0, params1, pass1, pass0, free1, free0}
 use denote.Exit.{yes}

@@ -1,6 +1,6 @@
 -- `models::unzip` meets its contract: a walk of its MIR, by hand. The three slices are opened before the loop and closed after it, and
 -- what the lists hold after i turns is `copied` of i.
-use mathlib.Core.Path.{_≡_, refl, sym, ap, subst, _∙_}
+use mathlib.Core.Path.{_≡_, refl, sym, ap, subst}
 use Prim.Native.Nat.{ℕ, zero, suc, _+_, _*_, _<_, _^_, min}
 use mathlib.Core.Bool.{Bool}
 use mathlib.Core.List.{List, [], _∷_}
@@ -37,7 +37,7 @@ use denote.Plain.{uint-vals, uint-tells, uint-makes, uint-lawful}
 use denote.Ref.{RefT}
 use denote.Lend.{Held}
 use denote.Slice.{sliceTy, sliceVal, ShrSlice, MutSlice, Room, heres, codedHoleys, at-slice, slice-vals, shr-slice-tells, mut-slice-tells}
-use denote.Index.{row, place, place-is, elem-out, elem-back, elem-put, looks-slice, shuts-slice, opens-slice, closes-slice}
+use denote.Index.{row, place-is, elem-out, elem-back, elem-put, looks-slice, shuts-slice, opens-slice, closes-slice}
 use denote.Signature.{plain}
 use denote.Builtin.{u64, usize}
 use denote.Struct.Laws as LL
