@@ -1,6 +1,4 @@
-pub mod Cuts
 pub mod Joins
-pub mod PathCuts
 pub mod PathJoins
 pub mod Listings
 pub mod SignalCuts

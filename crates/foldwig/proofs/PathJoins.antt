@@ -15,14 +15,16 @@ use Rattle.path.specs.Inner.{tallyOf}
 use Rattle.path.specs.declared.PathResult.{PathResult}
 use Rattle.path.proofs.Checks.{both}
 use Rattle.path.proofs.Cases.{append-refusal, append-refused}
+use Rattle.path.proofs.PathCuts.{pathLonger, enough-places, append-cut}
 use Rattle.build.specs.Build.{countOf, buildOf}
 use Rattle.build.proofs.Cases.{build-refusal, build-refused}
+use Rattle.build.proofs.BuildCuts.{build-cut}
 use Rattle.select.specs.Select.{selectRefused, selectOf}
+use Rattle.select.proofs.SelectCuts.{select-cut}
 use Rattle.foldwig.specs.Numbers.{shorts, longs}
 use Rattle.foldwig.specs.Paths.{pathInBytes, appendBytesOf, buildBytesOf, selectBytesOf}
 use Rattle.foldwig.specs.PathsInner.{Holds, pathOverFront}
 use Rattle.foldwig.proofs.Joins.{counted-items, counted-joined, front-back, front-written, off-layout, on-layout}
-use Rattle.foldwig.proofs.PathCuts.{pathLonger, enough-places, append-cut, select-cut, build-cut}
 
 -- What an inner function leaves that made a call on two lists.
 module _ (s l : List ℕ) (a b : ℕ) (o : PathOutcome) (made : PathResult) (s' l' : List ℕ) (e : pathOutcome made s' l' ≡ o) where

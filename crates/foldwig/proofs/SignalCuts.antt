@@ -28,7 +28,7 @@ use Rattle.signal.specs.Split.{SplitBuffers, splitRooms, SplitOutcome, splitChe
 use Rattle.signal.proofs.Paths.{Sized, path-sized, path-few}
 use Rattle.signal.proofs.Inputs.{path-solvable, splittable}
 use Rattle.foldwig.specs.SignalsInner.{readSamples}
-use Rattle.foldwig.proofs.Cuts.{agree, overwritten-cut, overwritten-to-cut, leb-take, same-cond, by-checks-cut}
+use Rattle.path.proofs.Cuts.{agree, overwritten-cut, overwritten-to-cut, leb-take, same-cond, by-checks-cut}
 
 -- Too many samples are too many in the front.
 short-cut : (xs : List ℤ) → leb (length (take readSamples xs)) maxSamples ≡ leb (length xs) maxSamples

@@ -1,30 +1,23 @@
--- What an append, a build or a selection leaves on longer lists is what it leaves on their front, with the rest kept: each looks at
--- no more entries than it is told, and at no more models than there may be.
+-- What an append leaves on longer lists is what it leaves on their front, with the rest kept: it looks at no more entries than it is
+-- told, and at no more than there may be models.
 use mathlib.Core.Path.{_≡_, refl, ap, sym, _∙_}
 use mathlib.Core.Bool.{Bool, true, false, _&&_}
 use mathlib.Core.Logic.{_⊎_, inl, inr, ⊎-elim}
 use mathlib.Core.List.{List, [], _∷_, _++_}
-use Prim.Native.Nat.{ℕ, zero, suc, _+_, _-_, _≤_, _<_, min}
+use Prim.Native.Nat.{ℕ, suc, _≤_, _<_, min}
 use native.Mathlib.Omega.{arith}
-use lib.Dec.{leb}
 use lib.ListN.{length, take, drop, length-take, take-append-drop}
-use lib.Seq.{getD-take, take-all}
-use Rattle.path.specs.Model.{Model, modelAt, pathOf, sizesOf, lossesOf}
+use lib.Seq.{getD-take}
+use Rattle.path.specs.Model.{Model, pathOf, sizesOf, lossesOf}
 use Rattle.path.specs.Update.{kept, extended, testsMade}
-use Rattle.path.specs.Refusal.{check, refusalOf, maxModels, roomFor, ordered, pathRoom, validPath, modelChecks}
+use Rattle.path.specs.Refusal.{check, refusalOf, maxModels, ordered, pathRoom, validPath, modelChecks}
 use Rattle.path.specs.Append.{PathOutcome, pathRefused, pathLeft, appendChecks, appendOf}
 use Rattle.path.proofs.Paths.{length-path, length-values, path-agrees}
 use Rattle.path.proofs.Checks.{room-parts, room-whole}
 use Rattle.path.proofs.Order.{valid-parts}
 use Rattle.path.proofs.Updates.{kept-few}
 use Rattle.path.proofs.Cases.{appendable}
-use Rattle.build.specs.Build.{built, builtTests, countOf, listChecks, buildChecks, buildOf}
-use Rattle.build.proofs.Cases.{build-refused, too-many}
-use Rattle.select.specs.Penalty.{validPenalty}
-use Rattle.select.specs.Select.{selectedFrom, selected, selectChecks, selectRefused, entryAt, selectOf}
-use Rattle.select.specs.declared.SelectResult.{SelectResult}
-use Rattle.select.proofs.Walks.{selected-within, selectable}
-use Rattle.foldwig.proofs.Cuts.{agree, le-or-lt, overwritten-to-cut, leb-take, same-cond, by-checks-cut}
+use Rattle.path.proofs.Cuts.{agree, le-or-lt, overwritten-to-cut, same-cond, by-checks-cut}
 
 -- An outcome with more at the end of its buffers.
 abbrev pub pathLonger : List ℕ → List ℕ → PathOutcome → PathOutcome
@@ -32,11 +25,11 @@ pathLonger sizes losses o =
     record { refusal = o .refusal; entries = o .entries; tests = o .tests; sizes = o .sizes ++ sizes; losses = o .losses ++ losses }
 
 -- A refused call leaves the front and the rest.
-refused-cut : (c : ℕ) (s l : List ℕ) (r : ℕ) → pathRefused s l r ≡ pathLonger (drop c s) (drop c l) (pathRefused (take c s) (take c l) r)
+pub refused-cut : (c : ℕ) (s l : List ℕ) (r : ℕ) → pathRefused s l r ≡ pathLonger (drop c s) (drop c l) (pathRefused (take c s) (take c l) r)
 refused-cut c s l r = λ i. pathRefused (sym (take-append-drop c s) i) (sym (take-append-drop c l) i) r
 
 -- A path over the front leaves the rest.
-left-cut : (path : List Model) (tests n c : ℕ) (s l : List ℕ) → length path ≤ c → n ≤ c → pathLeft path tests n s l ≡ pathLonger (drop c s) (drop c l) (pathLeft path tests n (take c s) (take c l))
+pub left-cut : (path : List Model) (tests n c : ℕ) (s l : List ℕ) → length path ≤ c → n ≤ c → pathLeft path tests n s l ≡ pathLonger (drop c s) (drop c l) (pathLeft path tests n (take c s) (take c l))
 left-cut path tests n c s l h m =
     let sizes = overwritten-to-cut (sizesOf path) n c s (omega (arith, length-values (λ (e : Model). e .size) path)) m in
     let losses = overwritten-to-cut (lossesOf path) n c l (omega (arith, length-values (λ (e : Model). e .loss) path)) m in
@@ -107,58 +100,3 @@ module _ (c : ℕ) (s l : List ℕ) (n : ℕ) (m : Model) (enough : (n < c) ⊎ 
   unfolding appendOf
   append-cut =
       by-checks-cut (pathLonger (drop c s) (drop c l)) (appendChecks s l n m) (appendChecks (take c s) (take c l) n m) (pathRefused s l) (pathRefused (take c s) (take c l)) _ _ same-append (refused-cut c s l) append-left
-
--- A selection looks at the entries.
-module _ (c : ℕ) (s l : List ℕ) (p q : ℕ) where
-  walk-cut : (m i : ℕ) → i + m < c → selectedFrom (take c s) (take c l) p q i m ≡ selectedFrom s l p q i m
-  unfolding selectedFrom
-  walk-cut zero i h = refl
-  walk-cut (suc m) i h =
-      rw (getD-take c s i 0 (omega arith), getD-take c l i 0 (omega arith), getD-take c s (suc i) 0 (omega arith), getD-take c l (suc i) 0 (omega arith), walk-cut m (suc i) (omega arith))
-
-  module _ (n : ℕ) (enough : (n ≤ c) ⊎ (maxModels ≤ c)) where
-    entry-cut : refusalOf (selectChecks s l n p q) ≡ 0 → entryAt s l (selected s l n p q) ≡ entryAt (take c s) (take c l) (selected (take c s) (take c l) n p q)
-    entry-cut e =
-        let a = selectable s l n p q e in
-        let w = few-within c s l n enough (valid-parts s l n (a .valid) .few) in
-        let i = selected s l n p q in
-        let inside = selected-within s l p q (n - 1) 0 in
-        rw (walk-cut (n - 1) 0 (omega arith), getD-take c s i 0 (omega arith), getD-take c l i 0 (omega arith))
-
-    pub select-cut : selectOf s l n p q ≡ selectOf (take c s) (take c l) n p q
-    unfolding selectOf
-    select-cut =
-        by-checks-cut (λ (r : SelectResult). r) (selectChecks s l n p q) (selectChecks (take c s) (take c l) n p q) selectRefused selectRefused _ _ (ap (λ (b : Bool). refusalOf (check 8 b ∷ check 10 (leb 1 n) ∷ check 4 (validPenalty p q) ∷ [])) (valid-cut c s l n enough)) (λ r. refl) entry-cut
-
--- A build looks at more models than there may be, if there are so many, and at as many places as there may be models.
-built-few : (a b : List ℕ) (i : ℕ) → length (built a b i) ≤ i
-unfolding built
-built-few a b zero = omega arith
-built-few a b (suc i) = omega (arith, kept-few (built a b i) (modelAt a b i) .0, built-few a b i)
-
-too-many-refused : (a b s l : List ℕ) → maxModels < countOf a b → buildOf a b s l ≡ pathRefused s l 2
-too-many-refused a b s l h =
-    sym (build-refused a b s l 2 (sym (too-many a b (length s) (length l) (countOf a b) (λ z. omega arith) h)) (λ z. omega arith))
-
--- Of the buffers of a build as many places are looked at as there are models, where these are not too many.
-module _ (a b s l : List ℕ) (d : ℕ) (places : countOf a b ≤ maxModels → countOf a b ≤ d) where
-  few-cut : countOf a b ≤ maxModels → buildOf a b s l ≡ pathLonger (drop d s) (drop d l) (buildOf a b (take d s) (take d l))
-  unfolding buildOf
-  few-cut h =
-      let n = countOf a b in
-      let near : n ≤ d = places h in
-      let room : roomFor n (length (take d s) ∷ length (take d l) ∷ []) ≡ roomFor n (length s ∷ length l ∷ []) = rw (leb-take n d s near, leb-take n d l near) in
-      by-checks-cut (pathLonger (drop d s) (drop d l)) (buildChecks a b (length s) (length l)) (buildChecks a b (length (take d s)) (length (take d l))) (pathRefused s l) (pathRefused (take d s) (take d l)) _ _
-      (λ i. refusalOf (check 1 (leb 1 n) ∷ check 2 (leb n maxModels) ∷ (listChecks a b 0 n ++ (check 9 (room i) ∷ []))))
-      (refused-cut d s l)
-      (λ e. left-cut (built a b n) (builtTests a b n) n d s l (omega (arith, near, built-few a b n)) near)
-
-  pub build-cut : (c : ℕ) → maxModels < c → buildOf a b s l ≡ pathLonger (drop d s) (drop d l) (buildOf (take c a) (take c b) (take d s) (take d l))
-  build-cut c more =
-      ⊎-elim
-      (λ (h : countOf a b ≤ maxModels).
-      few-cut h ∙ (λ i. pathLonger (drop d s) (drop d l) (buildOf (sym (take-all c a (omega arith)) i) (sym (take-all c b (omega arith)) i) (take d s) (take d l))))
-      (λ (h : maxModels < countOf a b).
-      too-many-refused a b s l h ∙ refused-cut d s l 2
-      ∙ sym (ap (pathLonger (drop d s) (drop d l)) (too-many-refused (take c a) (take c b) (take d s) (take d l) (omega (arith, length-take c a, length-take c b)))))
-      (le-or-lt (countOf a b) maxModels)
