@@ -19,7 +19,9 @@ entries-fixed (d ∷ a) (e ∷ b) s l =
     let size : d .size ≡ e .size = cc in
     let loss : d .loss ≡ e .loss = cc in
     let same : d ≡ e = λ i. record { size = size i; loss = loss i } in
-    let rest : a ≡ b = entries-fixed a b cc cc in
+    let sizes : sizesIn a ≡ sizesIn b = cc in
+    let losses : lossesIn a ≡ lossesIn b = cc in
+    let rest : a ≡ b = entries-fixed a b sizes losses in
     λ i. same i ∷ rest i
 
 -- The numbers of what is reached are what the appends on numbers reach.
