@@ -14,7 +14,7 @@ use lib.Seq.{slice}
 use Rattle.segment.specs.Segment.{maxSamples, segmentLoss}
 use Rattle.segment.specs.Inner.{maxSquare}
 use Rattle.least.specs.Segmentation.{lossWithLast, lastStart}
-use Rattle.least.specs.Inner.{rowOf, PickFrom, Seeded, Picked}
+use Rattle.least.specs.Inner.{rowOf, PickFrom, SeedFrom, Seeded, Picked}
 use Rattle.least.proofs.Earliest.{Earliest, earliest-one, earliest-alone, down-take, down-keep, down-all}
 use Rattle.least.proofs.LeastLosses.{slice-low, loss-split, lastStart-earliest}
 
@@ -51,22 +51,22 @@ pub record Right (xs : List ℤ) (old : List ℕ) (s to bound i : ℕ) : Type 0 
   pub is : bound ≡ lossWithLast xs (rowOf old) to s
   pub later : (t : ℕ) → i ≤ t → t < to → bound ≤ lossWithLast xs (rowOf old) to t
 
-module _ {xs : List ℤ} {old : List ℕ} {low s to own : ℕ} (l : low ≤ s) (h : s < to) (o : own ≡ segmentLoss (slice s to xs)) where
+module _ {xs : List ℤ} {sums squares recips old row : List ℕ} {low s to own : ℕ} (p : SeedFrom xs sums squares recips old row low s to) (o : own ≡ segmentLoss (slice s to xs)) where
   -- No start stands at the end.
   pub right-start : Right xs old s to (getD old s 0 + own) to
   unfolding lossWithLast
-  right-start = record { above = h; within = omega arith; is = ap (λ (v : ℕ). getD old s 0 + v) o; later = λ t a b. absurd (omega arith) }
+  right-start = record { above = p .below; within = omega arith; is = ap (λ (v : ℕ). getD old s 0 + v) o; later = λ t a b. absurd (omega arith) }
 
   -- Nothing is lost with s: no start is better.
   pub none-lost : getD old s 0 + own ≡ 0 → Seeded xs old low to own s
   none-lost z =
       let r : Right xs old s to (getD old s 0 + own) to = right-start in
-      record { above = l; below = h; own-is = o; later = λ t a b. omega (arith, r .is) }
+      record { above = p .above; below = p .below; own-is = o; later = λ t a b. omega (arith, r .is) }
 
   module _ {bound i : ℕ} (r : Right xs old s to bound i) where
     -- No start after s is better: it is the seed.
     seed-is : ((t : ℕ) → s < t → t < to → bound ≤ lossWithLast xs (rowOf old) to t) → Seeded xs old low to own s
-    seed-is later = record { above = l; below = h; own-is = o; later = λ t a b. omega (arith, r .is, later t a b) }
+    seed-is later = record { above = p .above; below = p .below; own-is = o; later = λ t a b. omega (arith, r .is, later t a b) }
 
     -- All starts after s are done with.
     pub right-end : i ≤ s + 1 → Seeded xs old low to own s
@@ -81,7 +81,7 @@ module _ {xs : List ℤ} {old : List ℕ} {low s to own : ℕ} (l : low ≤ s) (
       -- The next start is better than s, and no later one is: it is the seed.
       pub right-take : getD old (i - 1) 0 + v < bound → Seeded xs old low to v (i - 1)
       right-take better = record {
-        above = omega arith;
+        above = omega (arith, p .above);
         below = omega (arith, r .within);
         own-is = e;
         later = λ t a b. omega (arith, next-is, r .later t (omega arith) b);
@@ -97,12 +97,12 @@ module _ {xs : List ℤ} {old : List ℕ} {low s to own : ℕ} (l : low ≤ s) (
       }
 
       -- Nor is any start between s and it.
-      pub right-stop : {sums squares recips row : List ℕ} → PickFrom xs sums squares recips old row low to → bound ≤ getD old (i - 1) 0 + v → bound ≤ getD row (i - 1) 0 + v → Seeded xs old low to own s
-      right-stop {row = row} p worse stop = seed-is (λ t a b. by-place t a b (decLe (i - 1) t))
+      pub right-stop : bound ≤ getD old (i - 1) 0 + v → bound ≤ getD row (i - 1) 0 + v → Seeded xs old low to own s
+      right-stop worse stop = seed-is (λ t a b. by-place t a b (decLe (i - 1) t))
         where
           by-place : (t : ℕ) → s < t → t < to → Dec (i - 1 ≤ t) → bound ≤ lossWithLast xs (rowOf old) to t
           by-place t a b (yes q) = right-more worse .later t q b
-          by-place t a b (no q) = omega (arith, past-all p (i - 1) v (omega (arith, r .within)) e t (omega arith) (omega arith))
+          by-place t a b (no q) = omega (arith, past-all (p .pick) (i - 1) v (omega (arith, r .within)) e t (omega (arith, p .above)) (omega arith))
 
 -- Down: of the starts from i on, `start` is the earliest with the least loss, and `tail` is the loss of the last segment from i on.
 pub record Down (xs : List ℤ) (old : List ℕ) (low to i tail start loss : ℕ) : Type 0 where

@@ -1,4 +1,4 @@
-// One segment of a signal: its level, its loss, and the prefix sums from which both are had in constant time.
+// One segment of a signal: its level, its loss, and the prefix sums and reciprocals from which they are had in constant time.
 // Contracts speak of the samples as whole numbers. Inside, a sample is raised by 32,768, so that sums are natural numbers.
 ghost use mathlib.Core.Path.{_≡_};
 ghost use Prim.Native.Nat.{_*_, _≤_};
@@ -98,7 +98,8 @@ fn raised_level(recips: &[u64], sum: u32, n: usize) -> u64
     (2 * sum as u64 + n as u64 - 1) * recips[n] / RECIPROCAL_ONE
 }
 
-// The loss of the same segment, at its level. The level of the raised samples is the raised level.
+// The loss of the segment of samples from + 1 to to, at its level, which once raised is the level of the raised samples. The samples
+// are lent for the contract alone.
 pub fn segment_loss(
     samples: &[i16],
     sums: &[u32],

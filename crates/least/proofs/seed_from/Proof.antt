@@ -30,12 +30,12 @@ add-bound c =
 returns : tie.Need-returns Inv-loop μ-loop
 returns c =
     let p = c .before .before .before .before .before .before .before .before .before .pre in
-    none-lost (p .above) (p .below) (c .before .before .before .segment-loss .ensures) (c .if1 .taken)
+    none-lost p (c .before .before .before .segment-loss .ensures) (c .if1 .taken)
 
 loop-holds : tie.Need-loop-holds Inv-loop μ-loop
 loop-holds c =
     let p = c .before .before .before .before .before .before .before .before .before .pre in
-    right-start (p .above) (p .below) (c .before .before .before .segment-loss .ensures)
+    right-start p (c .before .before .before .segment-loss .ensures)
 
 add-loop : tie.Need-add-loop Inv-loop μ-loop
 add-loop c = omega arith
@@ -63,7 +63,7 @@ add-if2 c =
 returns-2 : tie.Need-returns-2 Inv-loop μ-loop
 returns-2 c =
     let p = c .before .before .before .before .before .before .before .before .before .before .before .before .before .before .pre in
-    right-take (p .above) (p .below) (c .before .before .before .before .before .before .before .before .segment-loss .ensures) (c .before .before .before .before .loop .inv) (omega arith) (c .before .before .segment-loss2 .ensures) (omega arith)
+    right-take p (c .before .before .before .before .before .before .before .before .segment-loss .ensures) (c .before .before .before .before .loop .inv) (omega arith) (c .before .before .segment-loss2 .ensures) (omega arith)
 
 mul-if3 : tie.Need-mul-if3 Inv-loop μ-loop
 mul-if3 c = omega arith
@@ -80,7 +80,7 @@ add-if3 c =
 returns-3 : tie.Need-returns-3 Inv-loop μ-loop
 returns-3 c =
     let p = c .before .before .before .before .before .before .before .before .before .before .before .before .before .before .before .before .pre in
-    right-stop (p .above) (p .below) (c .before .before .before .before .before .before .before .before .before .before .segment-loss .ensures) (c .before .before .before .before .before .before .loop .inv) (omega arith) (c .before .before .before .before .segment-loss2 .ensures) (p .pick) (omega arith) (omega arith)
+    right-stop p (c .before .before .before .before .before .before .before .before .before .before .segment-loss .ensures) (c .before .before .before .before .before .before .loop .inv) (omega arith) (c .before .before .before .before .segment-loss2 .ensures) (omega arith) (omega arith)
 
 loop-less : tie.Need-loop-less Inv-loop μ-loop
 loop-less c = omega arith
@@ -88,12 +88,12 @@ loop-less c = omega arith
 loop-again : tie.Need-loop-again Inv-loop μ-loop
 loop-again c =
     let p = c .before .before .before .before .before .before .before .before .before .before .before .before .before .before .before .before .pre in
-    right-more (p .above) (p .below) (c .before .before .before .before .before .before .before .before .before .before .segment-loss .ensures) (c .before .before .before .before .before .before .loop .inv) (omega arith) (c .before .before .before .before .segment-loss2 .ensures) (omega arith)
+    right-more p (c .before .before .before .before .before .before .before .before .before .before .segment-loss .ensures) (c .before .before .before .before .before .before .loop .inv) (omega arith) (c .before .before .before .before .segment-loss2 .ensures) (omega arith)
 
 returns-4 : tie.Need-returns-4 Inv-loop μ-loop
 returns-4 c =
     let p = c .before .before .before .before .before .before .before .before .before .before .before .pre in
-    right-end (p .above) (p .below) (c .before .before .before .before .before .segment-loss .ensures) (c .before .loop .inv) (omega arith)
+    right-end p (c .before .before .before .before .before .segment-loss .ensures) (c .before .loop .inv) (omega arith)
 
 pub seed-from-spec : {M : Type 1} → statement M
 seed-from-spec =
