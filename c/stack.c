@@ -9,7 +9,7 @@
 #include <string.h>
 #include <sys/mman.h>
 
-enum { STACK = 1 << 20, MARGIN = 512, PAINT = 0x5d, MODELS = 4096, CALLS = 6 };
+enum { STACK = 1 << 20, MARGIN = 512, PAINT = 0x5d, MODELS = 4096, CALLS = 10 };
 
 // The inputs, all of the largest lengths: models that all stay on the path and a signal that goes up and down; models on a line,
 // which drop each other, and a signal of one level; a path with a bad last entry and a limit that is refused.
@@ -17,6 +17,8 @@ enum { STAYING, DROPPING, REFUSED, INPUTS };
 
 static uint64_t limit;
 static uint8_t sizes[2 * MODELS], losses[8 * MODELS], path_sizes[2 * MODELS], path_losses[8 * MODELS];
+static struct foldwig_entry models[MODELS], entries[MODELS];
+static uint64_t numerators[MODELS], denominators[MODELS];
 static uint8_t samples[2 * FOLDWIG_MAX_SAMPLES], starts[64], levels[64], scratch[FOLDWIG_SCRATCH_LEN];
 static uint8_t *stack;
 
@@ -32,6 +34,8 @@ static void fill(int input)
         uint64_t left = MODELS - i;
         put(sizes + 2 * i, 2, input == REFUSED && left <= 2 ? 0 : i + 1);
         put(losses + 8 * i, 8, (input == DROPPING ? left : left * left) + 1);
+        models[i].size = input == REFUSED && left <= 2 ? 0 : i + 1;
+        models[i].loss = (input == DROPPING ? left : left * left) + 1;
     }
     for (uint64_t i = 0; i < FOLDWIG_MAX_SAMPLES; i++)
         put(samples + 2 * i, 2, input == DROPPING ? 7 : i * i * 7919);
@@ -62,6 +66,26 @@ static uint64_t call_breakpoints(void)
         .refusal;
 }
 
+static uint64_t call_append_entries(void)
+{
+    return foldwig_append_entries(models, MODELS, MODELS - 1, MODELS, 0).refusal;
+}
+
+static uint64_t call_build_entries(void)
+{
+    return foldwig_build_entries(models, MODELS, entries, MODELS).refusal;
+}
+
+static uint64_t call_select_entries(void)
+{
+    return foldwig_select_entries(models, MODELS, MODELS, 0, 1).refusal;
+}
+
+static uint64_t call_breakpoints_entries(void)
+{
+    return foldwig_breakpoints_entries(models, MODELS, MODELS, numerators, MODELS, denominators, MODELS).refusal;
+}
+
 static uint64_t call_signal_path(void)
 {
     return foldwig_signal_path(samples, sizeof samples, limit, path_sizes, 64, path_losses, 256, scratch, sizeof scratch).refusal;
@@ -83,6 +107,10 @@ static const struct {
     {"foldwig_build", call_build, FOLDWIG_BUILD_STACK},
     {"foldwig_select", call_select, FOLDWIG_SELECT_STACK},
     {"foldwig_breakpoints", call_breakpoints, FOLDWIG_BREAKPOINTS_STACK},
+    {"foldwig_append_entries", call_append_entries, FOLDWIG_APPEND_ENTRIES_STACK},
+    {"foldwig_build_entries", call_build_entries, FOLDWIG_BUILD_ENTRIES_STACK},
+    {"foldwig_select_entries", call_select_entries, FOLDWIG_SELECT_ENTRIES_STACK},
+    {"foldwig_breakpoints_entries", call_breakpoints_entries, FOLDWIG_BREAKPOINTS_ENTRIES_STACK},
     {"foldwig_signal_path", call_signal_path, FOLDWIG_SIGNAL_PATH_STACK},
     {"foldwig_split", call_split, FOLDWIG_SPLIT_STACK},
 };
@@ -147,7 +175,7 @@ int main(void)
         return 2;
     for (int i = 0; i < CALLS; i++) {
         size_t bytes = most_stack(measured[i].call, &wrong);
-        printf("%-20s %7zu bytes of stack%s, the header says %zu\n", measured[i].name, bytes, bytes <= MARGIN ? " at most" : "",
+        printf("%-27s %7zu bytes of stack%s, the header says %zu\n", measured[i].name, bytes, bytes <= MARGIN ? " at most" : "",
                measured[i].said);
         wrong += bytes > measured[i].said;
     }

@@ -14,6 +14,11 @@
  * A byte string is lent as a pointer followed by its length in bytes. The number of its items is the length divided by the width
  * of an item. Of two buffers that hold one thing together, the shorter one counts. A null pointer may come with the length 0.
  *
+ * Entries. The calls on a path stand once more with _entries at the end of their names, for a path and for models that lie in one
+ * array of struct foldwig_entry, aligned as C aligns it. Such an array is lent as a pointer followed by the number of its elements,
+ * and so are the two arrays of numbers that foldwig_breakpoints_entries writes. What these calls do to the sizes and to the losses
+ * is what the others do to two lists of numbers, and their refusals are the same, in the same order, without 11.
+ *
  * Refusals. No call has a precondition on values: each answers a struct by value, and its first field is 0 if the call was
  * accepted and else a number of enum foldwig_refusal. Several causes may hold at once; the first one in the order given with the
  * call decides. A refused call answers 0 in all other fields and alters no byte that was lent to it.
@@ -52,6 +57,10 @@ extern "C" {
 #define FOLDWIG_BUILD_STACK 132000
 #define FOLDWIG_SELECT_STACK 66000
 #define FOLDWIG_BREAKPOINTS_STACK 132000
+#define FOLDWIG_APPEND_ENTRIES_STACK 66000
+#define FOLDWIG_BUILD_ENTRIES_STACK 132000
+#define FOLDWIG_SELECT_ENTRIES_STACK 66000
+#define FOLDWIG_BREAKPOINTS_ENTRIES_STACK 66000
 #define FOLDWIG_SIGNAL_PATH_STACK 13000
 #define FOLDWIG_SPLIT_STACK 15000
 
@@ -89,6 +98,12 @@ enum foldwig_refusal {
             "path out of range, out of order or too long", "buffer too short", "path without entries",                           \
             "length not a whole number of items"                                                                                 \
     }
+
+/* A model, or an entry of a path. */
+struct foldwig_entry {
+    uint64_t size;
+    uint64_t loss;
+};
 
 /* The answer of an append and of a build. */
 struct foldwig_path_result {
@@ -166,6 +181,39 @@ struct foldwig_select_result foldwig_select(const uint8_t *sizes, size_t sizes_l
 struct foldwig_breakpoints_result foldwig_breakpoints(const uint8_t *sizes, size_t sizes_len, const uint8_t *losses,
                                                       size_t losses_len, uint64_t entries, uint8_t *numerators,
                                                       size_t numerators_len, uint8_t *denominators, size_t denominators_len);
+
+/*
+ * Appends a model to the path of n entries at the front of an array, as foldwig_append does.
+ * Refusals, in order: 8, 5, 6, 7, 9.
+ * Stack: 66,000 bytes.
+ */
+struct foldwig_path_result foldwig_append_entries(struct foldwig_entry *entries, size_t entries_len, uint64_t n, uint64_t size,
+                                                  uint64_t loss);
+
+/*
+ * Builds the path of an array of models at the front of an array of entries, as foldwig_build does.
+ * Refusals, in order: 1, 2, then at the first bad model 5, 6 or 7, then 9.
+ * Stack: 132,000 bytes.
+ */
+struct foldwig_path_result foldwig_build_entries(const struct foldwig_entry *models, size_t models_len,
+                                                 struct foldwig_entry *entries, size_t entries_len);
+
+/*
+ * Selects an entry of the path of n entries at the front of an array at the penalty p / q, as foldwig_select does.
+ * Refusals, in order: 8, 10, 4.
+ * Stack: 66,000 bytes.
+ */
+struct foldwig_select_result foldwig_select_entries(const struct foldwig_entry *entries, size_t entries_len, uint64_t n,
+                                                    uint64_t p, uint64_t q);
+
+/*
+ * Lists the breakpoints of the path of n entries at the front of an array, as foldwig_breakpoints does.
+ * Refusals, in order: 8, 9.
+ * Stack: 66,000 bytes.
+ */
+struct foldwig_breakpoints_result foldwig_breakpoints_entries(const struct foldwig_entry *entries, size_t entries_len, uint64_t n,
+                                                              uint64_t *numerators, size_t numerators_len,
+                                                              uint64_t *denominators, size_t denominators_len);
 
 /*
  * Gives the path of a signal (R25 to R31): the sizes from 1 to max_segments, at most the number of samples, that can be the
