@@ -1,0 +1,1133 @@
+// Compares the calls on arrays of entries with the calls on byte strings, which test.c compares with the reference. Both sides get
+// the same numbers. Afterwards every field of the answers is compared, every element of every array with the items that the byte
+// strings then hold, and the guards beside the arrays. A size of 65,536 or more has no place in two bytes and stands as 0 in the
+// byte strings, which is out of range as well; where no call writes it has to stay. The refusals are compared besides with those
+// that R36 to R41 of docs/RULES.md give, on the numbers themselves.
+// Usage: entries [SEED]
+// A seed leads to the same calls again if the same compiler is used.
+//
+// The macro FAULT plants one fault in this comparison, which it must then notice:
+//
+//    1  the size and the loss of the first entry are exchanged when they are decoded
+//    2  the last place that a call writes is decoded as zeros
+//    3  a call is expected to make one test more
+//    4  a bit behind the places that a call writes is expected to change
+//    5  a size of more than two bytes is cut to two for the byte strings
+//    6  the byte strings for the path of a build are lent with one place less
+//    7  the index of a selection is counted from 1
+//    8  the numerators and the denominators of breakpoints are exchanged
+//    9  the byte side is told of one entry less
+//   10  a size of more than two bytes is expected to be cut to two where no call writes
+//   11  losses and numerators are decoded from their first four bytes
+//   12  the rules have 65,536 in the range of sizes
+//   13  a byte beside an array is changed
+//   14  a byte of an array is changed by a refused call
+#define _DEFAULT_SOURCE
+#include "../include/foldwig.h"
+#include <pthread.h>
+#include <stdio.h>
+#include <stdlib.h>
+#include <string.h>
+#include <sys/mman.h>
+
+#ifndef FAULT
+#define FAULT 0
+#endif
+
+enum { MOST = 4104, PAGES = 1 << 17, GUARD = 64, GUARD_BYTE = 0xa7, MOST_MISMATCHES = 10, SMALL_STACK = 256 * 1024 };
+
+static const uint64_t TOP = (uint64_t)1 << 44;
+
+// The four calls, as the tallies number them, and the refusals of each in their order, ended by 0.
+enum call { APPEND, BUILD, SELECT, BREAKPOINTS, CALLS };
+
+static const char *const names[CALLS] = {"append", "build", "select", "breakpoints"};
+static const int orders[CALLS][8] = {{8, 5, 6, 7, 9, 0}, {1, 2, 5, 6, 7, 9, 0}, {8, 10, 4, 0}, {8, 9, 0}};
+
+// The arrays: the path or the models that a call reads, the path that a build makes, and the breakpoints. Each has one or two
+// numbers in an element, and for each of these an own byte string with items of a width.
+enum array { PATH, MADE, NUMERATORS, DENOMINATORS, ARRAYS };
+
+static const size_t columns[ARRAYS] = {2, 2, 1, 1};
+static const size_t widths[ARRAYS][2] = {{2, 8}, {2, 8}, {8, 0}, {2, 0}};
+static const int lent_to[CALLS][ARRAYS] = {{1, 0, 0, 0}, {1, 1, 0, 0}, {1, 0, 0, 0}, {1, 0, 1, 1}};
+static const int writes[CALLS][ARRAYS] = {{1, 0, 0, 0}, {0, 1, 0, 0}, {0, 0, 0, 0}, {0, 0, 1, 1}};
+
+// What an array holds before a call, element by element. After a call it is what the call left.
+static struct {
+    size_t len;
+    uint64_t at[2 * MOST];
+} held[ARRAYS];
+
+// Memory as it is lent: pages that can be written between two that can't be touched, where it stands in them, its bytes, and the
+// address that the call gets, which may be null if there are none. The arrays come first, then two byte strings for each of them.
+static struct span {
+    uint8_t *pages;
+    uint8_t *at;
+    void *given;
+    size_t len;
+} spans[3 * ARRAYS];
+
+static uint64_t state;
+static unsigned long calls[CALLS], mismatches;
+static unsigned long refusals[CALLS][FOLDWIG_REFUSALS];     // how often a call answered a number
+static unsigned long nulls[CALLS][ARRAYS];                  // how often an array was lent as null
+
+// ---- Random numbers
+
+static uint64_t random64(void)
+{
+    uint64_t z = state += UINT64_C(0x9e3779b97f4a7c15);
+    z = (z ^ z >> 30) * UINT64_C(0xbf58476d1ce4e5b9);
+    z = (z ^ z >> 27) * UINT64_C(0x94d049bb133111eb);
+    return z ^ z >> 31;
+}
+
+static uint64_t below(uint64_t bound)
+{
+    return random64() % bound;
+}
+
+static int one_in(uint64_t many)
+{
+    return below(many) == 0;
+}
+
+// ---- Mismatches
+
+static int summary(void);
+
+static void count_mismatch(void)
+{
+    if (++mismatches >= MOST_MISMATCHES) {
+        printf("stopped after so many mismatches\n");
+        exit(summary());
+    }
+}
+
+static void expect(int so, const char *what)
+{
+    if (so)
+        return;
+    printf("mismatch: %s\n", what);
+    count_mismatch();
+}
+
+// ---- Lending
+
+static void map_spans(void)
+{
+    size_t edge = 1 << 14;
+    for (int i = 0; i < 3 * ARRAYS; i++) {
+        uint8_t *all = mmap(NULL, PAGES + 2 * edge, PROT_NONE, MAP_PRIVATE | MAP_ANONYMOUS, -1, 0);
+        if (all == MAP_FAILED || mprotect(all + edge, PAGES, PROT_READ | PROT_WRITE) != 0) {
+            perror("mapping the arrays");
+            exit(2);
+        }
+        spans[i].pages = all + edge;
+    }
+}
+
+// How many guard bytes stand before a span, and how many behind it.
+static size_t guard_before(const struct span *s)
+{
+    size_t free = (size_t)(s->at - s->pages);
+    return free < GUARD ? free : GUARD;
+}
+
+static size_t guard_behind(const struct span *s)
+{
+    size_t free = PAGES - (size_t)(s->at - s->pages) - s->len;
+    return free < GUARD ? free : GUARD;
+}
+
+// Places so many bytes: flush against the page behind them, flush against the one before them, or between guards. Arrays are
+// aligned to eight bytes and no more.
+static void place(struct span *s, size_t len, size_t alignment)
+{
+    uint64_t how = below(4);
+    s->len = len;
+    s->at = how == 0 ? s->pages + (PAGES - len) : how == 1 ? s->pages : s->pages + GUARD + alignment * below(16);
+    s->given = len == 0 && one_in(2) ? NULL : s->at;
+    memset(s->at - guard_before(s), GUARD_BYTE, guard_before(s));
+    memset(s->at + len, GUARD_BYTE, guard_behind(s));
+}
+
+static int guards_stand(const struct span *s)
+{
+    for (size_t i = 0; i < guard_before(s); i++)
+        if (s->at[-1 - (ptrdiff_t)i] != GUARD_BYTE)
+            return 0;
+    for (size_t i = 0; i < guard_behind(s); i++)
+        if (s->at[s->len + i] != GUARD_BYTE)
+            return 0;
+    return 1;
+}
+
+static struct span *byte_string(int array, size_t column)
+{
+    return &spans[ARRAYS + 2 * array + (int)column];
+}
+
+static int fits(uint64_t value, size_t width)
+{
+    return width == 8 || value >> (8 * width) == 0;
+}
+
+// Writes a column of an array to its byte string. A number that does not fit becomes 0.
+static void encode(int array, size_t column)
+{
+    size_t width = widths[array][column];
+    struct span *s = byte_string(array, column);
+    place(s, held[array].len * width, 1);
+    for (size_t i = 0; i < held[array].len; i++) {
+        uint64_t value = held[array].at[columns[array] * i + column];
+        if (FAULT != 5 && !fits(value, width))
+            value = 0;
+        for (size_t j = 0; j < width; j++)
+            s->at[i * width + j] = (uint8_t)(value >> (8 * j));
+    }
+}
+
+static uint64_t decode(int array, size_t column, size_t i)
+{
+    size_t width = widths[array][column];
+    const struct span *s = byte_string(array, column);
+    uint64_t value = 0;
+    for (size_t j = 0; j < width && (FAULT != 11 || j < 4); j++)
+        value += (uint64_t)s->at[i * width + j] << (8 * j);
+    return value;
+}
+
+static int is_protected;
+
+static void protect(int protection)
+{
+    if (mprotect(spans[PATH].pages, PAGES, protection) != 0) {
+        perror("protecting the arrays");
+        exit(2);
+    }
+}
+
+// Lends all arrays of a call, and their byte strings. Now and then what a call only reads can't be written.
+static void lend(enum call call)
+{
+    for (int a = 0; a < ARRAYS; a++) {
+        if (!lent_to[call][a])
+            continue;
+        place(&spans[a], held[a].len * columns[a] * sizeof held[a].at[0], sizeof held[a].at[0]);
+        memcpy(spans[a].at, held[a].at, spans[a].len);
+        nulls[call][a] += spans[a].given == NULL;
+        for (size_t c = 0; c < columns[a]; c++)
+            encode(a, c);
+    }
+    is_protected = call != APPEND && one_in(16);
+    if (is_protected)
+        protect(PROT_READ);
+}
+
+// An array as the library gets it, a pointer and the number of its elements, and a byte string.
+#define ARRAY(a) spans[a].given, spans[a].len / (columns[a] * sizeof held[a].at[0])
+#define BYTES(a, c) byte_string(a, c)->given, byte_string(a, c)->len
+
+// ---- Comparing
+
+// What a call was given beside its arrays, and what it and the call on byte strings answered.
+struct answers {
+    int numbers, fields;
+    uint64_t given[3], got[4], wanted[4];
+};
+
+static void print_numbers(const char *what, const uint64_t *numbers, int count)
+{
+    printf("%s", what);
+    for (int i = 0; i < count; i++)
+        printf(" %llu", (unsigned long long)numbers[i]);
+}
+
+static void print_answers(enum call call, const struct answers *a, const char *what)
+{
+    printf("mismatch: %s", names[call]);
+    print_numbers(" answers", a->got, a->fields);
+    printf(", %s", what);
+    print_numbers(" answers", a->wanted, a->fields);
+    print_numbers("; given", a->given, a->numbers);
+    printf(" and lengths");
+    for (int i = 0; i < ARRAYS; i++)
+        if (lent_to[call][i])
+            printf(" %zu", held[i].len);
+    printf("\n");
+}
+
+// The number that an array should hold after a call which writes the places before an end.
+static uint64_t wanted_number(int array, size_t column, size_t i, size_t end)
+{
+    uint64_t before = held[array].at[columns[array] * i + column], now;
+    if (FAULT == 1 && i == 0 && columns[array] == 2)
+        return decode(array, 1 - column, i);
+    if (FAULT == 2 && i + 1 == end)
+        return 0;
+    if (FAULT == 8 && array >= NUMERATORS && i < end)
+        return decode(array == NUMERATORS ? DENOMINATORS : NUMERATORS, 0, i);
+    now = decode(array, column, i);
+    if (!fits(before, widths[array][column]) && i >= end)
+        now = FAULT == 10 ? before & 65535 : before;
+    return FAULT == 4 && i == end && end > 0 ? now ^ 1 : now;
+}
+
+// Compares every number of an array, and takes over what the call left.
+static void check_array(enum call call, int a, size_t end, int refused)
+{
+    int differs = 0;
+    for (size_t i = 0; i < held[a].len; i++)
+        for (size_t c = 0; c < columns[a]; c++) {
+            uint64_t got, wanted = wanted_number(a, c, i, end);
+            memcpy(&got, spans[a].at + (columns[a] * i + c) * sizeof got, sizeof got);
+            if (got != wanted && !differs++)
+                printf("mismatch: %s, array %d, place %zu of %zu, number %zu: %llu, expected %llu\n", names[call], a, i,
+                       held[a].len, c, (unsigned long long)got, (unsigned long long)wanted);
+        }
+    if (differs > 0)
+        count_mismatch();
+    if ((refused || !writes[call][a]) && memcmp(spans[a].at, held[a].at, spans[a].len) != 0) {
+        printf("mismatch: %s altered array %d, of %zu places\n", names[call], a, held[a].len);
+        count_mismatch();
+    }
+    if (!guards_stand(&spans[a])) {
+        printf("mismatch: %s wrote beside array %d, of %zu places\n", names[call], a, held[a].len);
+        count_mismatch();
+    }
+    for (size_t c = 0; c < columns[a]; c++)
+        expect(guards_stand(byte_string(a, c)), "a call on byte strings wrote beside one of them");
+    memcpy(held[a].at, spans[a].at, spans[a].len);
+}
+
+static void plant_in_memory(int refused)
+{
+    struct span *s = &spans[PATH];
+    if (FAULT == 13 && guard_behind(s) > 9)
+        s->at[s->len + 9] ^= 1;
+    if (FAULT == 14 && refused && s->len > 0)
+        s->at[s->len - 1] ^= 1;
+}
+
+// Compares the answers, the refusal with that by the rules, and the arrays. A refused call answers zeros beside its number. An
+// accepted one writes the places before an end.
+static void check(enum call call, const struct answers *a, uint64_t rule, size_t end)
+{
+    int refused = a->got[0] != 0;
+    if (is_protected)
+        protect(PROT_READ | PROT_WRITE);
+    plant_in_memory(refused);
+    calls[call]++;
+    if (memcmp(a->got, a->wanted, (size_t)a->fields * sizeof a->got[0]) != 0) {
+        print_answers(call, a, "the call on byte strings");
+        count_mismatch();
+    }
+    if (a->got[0] != rule) {
+        print_answers(call, a, "which the rules refuse otherwise; the call on byte strings");
+        count_mismatch();
+    }
+    if (refused && (a->got[1] | a->got[2] | a->got[3]) != 0) {
+        print_answers(call, a, "refused, but not with zeros; the call on byte strings");
+        count_mismatch();
+    }
+    for (int i = 0; i < ARRAYS; i++)
+        if (lent_to[call][i])
+            check_array(call, i, refused || !writes[call][i] ? 0 : end, refused);
+    if (a->got[0] < FOLDWIG_REFUSALS)
+        refusals[call][a->got[0]]++;
+}
+
+// ---- The refusals by the rules
+
+static struct foldwig_entry entry_at(int array, size_t i)
+{
+    struct foldwig_entry e = {held[array].at[2 * i], held[array].at[2 * i + 1]};
+    return e;
+}
+
+static struct foldwig_entry entry(uint64_t size, uint64_t loss)
+{
+    struct foldwig_entry e = {size, loss};
+    return e;
+}
+
+// What a model is refused with behind a last one, which is null if there is none: 5, 6, 7, or 0 if it is not.
+static uint64_t model_refusal(struct foldwig_entry m, const struct foldwig_entry *last)
+{
+    if (m.size == 0 || m.size > (FAULT == 12 ? 65536 : 65535) || m.loss > TOP)
+        return 5;
+    if (last && m.size <= last->size)
+        return 6;
+    return last && m.loss >= last->loss ? 7 : 0;
+}
+
+// What the first bad one of n models is refused with.
+static uint64_t models_refusal(size_t n)
+{
+    struct foldwig_entry last = {0, 0};
+    for (size_t i = 0; i < n; i++) {
+        struct foldwig_entry m = entry_at(PATH, i);
+        uint64_t refusal = model_refusal(m, i > 0 ? &last : NULL);
+        if (refusal != 0)
+            return refusal;
+        last = m;
+    }
+    return 0;
+}
+
+static int bad_path(uint64_t n)
+{
+    return n > held[PATH].len || n > 4096 || models_refusal((size_t)n) != 0;
+}
+
+// Whether the test of a new model holds at an entry (R13).
+static int test_holds(size_t i, struct foldwig_entry m)
+{
+    struct foldwig_entry e = entry_at(PATH, i), before;
+    if (i == 0)
+        return 1;
+    before = entry_at(PATH, i - 1);
+    return (e.loss - m.loss) * (e.size - before.size) < (before.loss - e.loss) * (m.size - e.size);
+}
+
+static uint64_t append_rule(uint64_t n, struct foldwig_entry m)
+{
+    struct foldwig_entry last = {0, 0};
+    uint64_t refusal;
+    size_t stay = (size_t)n, room = held[PATH].len < 4096 ? held[PATH].len : 4096;
+    if (bad_path(n))
+        return 8;
+    if (n > 0)
+        last = entry_at(PATH, (size_t)n - 1);
+    refusal = model_refusal(m, n > 0 ? &last : NULL);
+    if (refusal != 0)
+        return refusal;
+    while (stay > 0 && !test_holds(stay - 1, m))
+        stay--;
+    return stay >= room ? 9 : 0;
+}
+
+static uint64_t build_rule(void)
+{
+    size_t n = held[PATH].len;
+    uint64_t refusal;
+    if (n == 0 || n > 4096)
+        return n == 0 ? 1 : 2;
+    refusal = models_refusal(n);
+    return refusal != 0 ? refusal : held[MADE].len < n ? 9 : 0;
+}
+
+static uint64_t select_rule(uint64_t n, uint64_t p, uint64_t q)
+{
+    if (bad_path(n))
+        return 8;
+    return n == 0 ? 10 : p > TOP || q == 0 || q > 65535 ? 4 : 0;
+}
+
+static uint64_t breakpoints_rule(uint64_t n)
+{
+    uint64_t count = n == 0 ? 0 : n - 1;
+    if (bad_path(n))
+        return 8;
+    return held[NUMERATORS].len < count || held[DENOMINATORS].len < count ? 9 : 0;
+}
+
+// ---- The calls. Each makes one call on the arrays and the same on byte strings, compares them, and answers what the arrays gave.
+
+// The number of entries that the byte side is told.
+static uint64_t told(uint64_t n)
+{
+    return FAULT == 9 && n > 0 ? n - 1 : n;
+}
+
+static struct foldwig_path_result compare_append(uint64_t n, uint64_t size, uint64_t loss)
+{
+    struct foldwig_path_result got, wanted;
+    uint64_t rule = append_rule(n, entry(size, loss));
+    lend(APPEND);
+    got = foldwig_append_entries(ARRAY(PATH), n, size, loss);
+    wanted = foldwig_append(BYTES(PATH, 0), BYTES(PATH, 1), told(n), size, loss);
+    struct answers a = {3,
+                        3,
+                        {n, size, loss},
+                        {got.refusal, got.entries, got.tests, 0},
+                        {wanted.refusal, wanted.entries, wanted.tests + (FAULT == 3 && wanted.tests > 0), 0}};
+    check(APPEND, &a, rule, (size_t)(got.entries > n ? got.entries : n));
+    return got;
+}
+
+static struct foldwig_path_result compare_build(void)
+{
+    struct foldwig_path_result got, wanted;
+    uint64_t rule = build_rule();
+    size_t less = FAULT == 6 && held[MADE].len > 0;
+    lend(BUILD);
+    got = foldwig_build_entries(ARRAY(PATH), ARRAY(MADE));
+    wanted = foldwig_build(BYTES(PATH, 0), BYTES(PATH, 1), BYTES(MADE, 0) - 2 * less, BYTES(MADE, 1) - 8 * less);
+    struct answers a = {0,
+                        3,
+                        {0, 0, 0},
+                        {got.refusal, got.entries, got.tests, 0},
+                        {wanted.refusal, wanted.entries, wanted.tests + (FAULT == 3 && wanted.tests > 0), 0}};
+    check(BUILD, &a, rule, held[PATH].len);
+    return got;
+}
+
+static struct foldwig_select_result compare_select(uint64_t n, uint64_t p, uint64_t q)
+{
+    struct foldwig_select_result got, wanted;
+    uint64_t rule = select_rule(n, p, q);
+    lend(SELECT);
+    got = foldwig_select_entries(ARRAY(PATH), n, p, q);
+    wanted = foldwig_select(BYTES(PATH, 0), BYTES(PATH, 1), told(n), p, q);
+    struct answers a = {3,
+                        4,
+                        {n, p, q},
+                        {got.refusal, got.index, got.size, got.loss},
+                        {wanted.refusal, wanted.index + (FAULT == 7 && wanted.refusal == 0), wanted.size, wanted.loss}};
+    check(SELECT, &a, rule, 0);
+    return got;
+}
+
+static struct foldwig_breakpoints_result compare_breakpoints(uint64_t n)
+{
+    struct foldwig_breakpoints_result got, wanted;
+    uint64_t rule = breakpoints_rule(n);
+    lend(BREAKPOINTS);
+    got = foldwig_breakpoints_entries(ARRAY(PATH), n, ARRAY(NUMERATORS), ARRAY(DENOMINATORS));
+    wanted = foldwig_breakpoints(BYTES(PATH, 0), BYTES(PATH, 1), told(n), BYTES(NUMERATORS, 0), BYTES(DENOMINATORS, 0));
+    struct answers a = {1, 2, {n, 0, 0}, {got.refusal, got.count, 0, 0}, {wanted.refusal, wanted.count, 0, 0}};
+    check(BREAKPOINTS, &a, rule, (size_t)got.count);
+    return got;
+}
+
+// ---- Making models
+
+static struct foldwig_entry list[MOST];     // the models that a test works with
+
+// How a list of models is made: anything in order; breakpoints that fall; breakpoints that fall or stay; large numbers.
+enum shape { ANY, FALLING, TIED, LARGE, SHAPES };
+
+static enum shape some_shape(void)
+{
+    return (enum shape)below(SHAPES);
+}
+
+// Makes n models in order, the losses from the last one back.
+static void make_models(size_t n, enum shape shape)
+{
+    uint64_t step = n > 500 ? 2 : shape == LARGE ? 65000 / (n + 1) : 3;
+    uint64_t size = 1 + below(3), loss = one_in(3) ? 0 : below(20), slope = below(3);
+    for (size_t i = 0; i < n; i++) {
+        list[i].size = size;
+        size += 1 + (shape == TIED && one_in(2) ? 0 : below(step));
+    }
+    for (size_t i = n; i-- > 0;) {
+        list[i].loss = loss;
+        if (i == 0)
+            break;
+        slope += shape == FALLING ? 1 + below(3) : below(2);
+        if (shape == ANY)
+            loss += 1 + below(12);
+        else if (shape == LARGE)
+            loss += 1 + below(TOP / (n + 1) - 20);
+        else
+            loss += (slope == 0 ? 1 : slope) * (list[i].size - list[i - 1].size);
+    }
+}
+
+// A size that two bytes can't hold. In most cases its low bits are those of a good one.
+static uint64_t wide(uint64_t size)
+{
+    switch (below(6)) {
+    case 0: return 65536;
+    case 1: return UINT64_MAX - below(3);
+    case 2: return size | (uint64_t)1 << 32;
+    case 3: return size | (uint64_t)1 << 63;
+    case 4: return size + 65536 * (1 + below(9));
+    default: return size + 65536;
+    }
+}
+
+// The ways to spoil the model at a place: a size of 0 or of more than two bytes, a loss over the top, a size or a loss that does
+// not follow the last one.
+enum { DAMAGES = 9 };
+
+static void spoil(size_t i, int how)
+{
+    const struct foldwig_entry *last = &list[i > 0 ? i - 1 : 0];
+    struct foldwig_entry spoilt[DAMAGES] = {
+        list[i],
+        {0, list[i].loss},
+        {list[i].size, TOP + 1},
+        {last->size, list[i].loss},
+        {last->size - 1, list[i].loss},
+        {list[i].size, last->loss},
+        {list[i].size, last->loss + 1},
+        {0, UINT64_MAX},
+        {wide(list[i].size), list[i].loss},
+    };
+    list[i] = spoilt[how];
+}
+
+// Gives an array so many places, filled with numbers that have nothing to do with a call, now and then wide ones.
+static void fresh(int array, size_t len)
+{
+    if (len > MOST) {
+        fprintf(stderr, "an array of %zu places is asked for\n", len);
+        exit(2);
+    }
+    held[array].len = len;
+    for (size_t i = 0; i < columns[array] * len; i++) {
+        size_t width = widths[array][i % columns[array]];
+        uint64_t r = random64();
+        held[array].at[i] = width == 2 && !one_in(4) ? r & 65535 : r;
+    }
+}
+
+// Puts n models to the front of the array that calls read, which has so many places, or fewer than n.
+static void put_models(size_t n, size_t places)
+{
+    fresh(PATH, places);
+    for (size_t i = 0; i < n && i < places; i++) {
+        held[PATH].at[2 * i] = list[i].size;
+        held[PATH].at[2 * i + 1] = list[i].loss;
+    }
+}
+
+static void fresh_breakpoints(size_t numerators, size_t denominators)
+{
+    fresh(NUMERATORS, numerators);
+    fresh(DENOMINATORS, denominators);
+}
+
+// A number of models: 0 to 40, and now and then about the limit.
+static size_t some_length(void)
+{
+    return one_in(300) ? 4095 + below(3) : below(one_in(2) ? 8 : 41);
+}
+
+// Room for n elements, mostly, and else for one or two fewer or more.
+static size_t about(size_t n)
+{
+    uint64_t r = below(12);
+    return r == 0 && n > 0 ? n - 1 : r == 1 && n > 1 ? n - 2 : r < 6 ? n : n + below(4);
+}
+
+// A number that is mostly small, and else somewhere near a limit or anywhere.
+static uint64_t some_number(uint64_t limit)
+{
+    switch (below(10)) {
+    case 0: return limit;
+    case 1: return limit + 1;
+    case 2: return limit - 1;
+    case 3: return one_in(8) ? random64() : below(limit);
+    default: return below(25);
+    }
+}
+
+// The number of entries that is said for n entries in an array of some length.
+static uint64_t some_count(size_t n, size_t len)
+{
+    switch (below(24)) {
+    case 0: return len;
+    case 1: return len + 1;
+    case 2: return n + 1;
+    case 3: return below(n + 1);
+    case 4: return 0;
+    case 5: return 4096 + below(2);
+    case 6: return one_in(2) ? random64() : n | (uint64_t)1 << (32 + below(32));
+    default: return n;
+    }
+}
+
+// ---- Builds and paths
+
+static void random_builds(int turns)
+{
+    for (int turn = 0; turn < turns; turn++) {
+        size_t n = some_length();
+        make_models(n, some_shape());
+        for (int damage = 0; damage < 3 && n > 0 && one_in(3); damage++)
+            spoil(below(n), (int)below(DAMAGES));
+        put_models(n, n);
+        fresh(MADE, about(n));
+        compare_build();
+    }
+}
+
+// Compares selections from the path of n models, at random penalties and at those where two of its entries cost the same.
+static void compare_selections(uint64_t said, size_t n)
+{
+    for (int turn = 0; turn < 3; turn++) {
+        uint64_t p = some_number(TOP), q = some_number(65535);
+        if (n > 1 && one_in(2)) {
+            size_t i = below(n - 1), j = i + 1 + below(one_in(2) ? 1 : n - 1 - i);
+            p = list[i].loss - list[j].loss;
+            q = list[j].size - list[i].size;
+        }
+        compare_select(said, p, q);
+    }
+}
+
+// Lists in order, most of which no call has left, and damaged ones, said to have any number of entries.
+static void random_paths(int turns)
+{
+    for (int turn = 0; turn < turns; turn++) {
+        size_t n = some_length(), len = about(n), count = n > 0 ? n - 1 : 0;
+        uint64_t said = some_count(n, len);
+        struct foldwig_entry last, new_model;
+        make_models(n, some_shape());
+        last = n > 0 ? list[n - 1] : entry(0, TOP);
+        new_model = entry(last.size + 1 + below(4), last.loss > 0 ? last.loss - 1 - below(last.loss < 9 ? last.loss : 9) : 0);
+        if (n > 0 && one_in(4))
+            spoil(below(n), (int)below(DAMAGES));
+        put_models(n, len);
+        compare_selections(said, n);
+        fresh_breakpoints(about(count), about(count));
+        compare_breakpoints(said);
+        if (one_in(6))
+            new_model.size = one_in(2) ? wide(new_model.size) : some_number(65535);
+        if (one_in(6))
+            new_model.loss = some_number(TOP);
+        compare_append(said, new_model.size, new_model.loss);
+    }
+}
+
+// ---- Histories
+
+// Perhaps begins a history with a build, whose array then is that of the appends. It answers the number of entries, and keeps the
+// accepted models in the list.
+static uint64_t begin_history(size_t places, size_t *accepted, uint64_t *tests)
+{
+    struct foldwig_path_result r = {0, 0, 0};
+    size_t n = below(places + 1);
+    fresh(MADE, places);
+    if (one_in(2)) {
+        make_models(n, some_shape());
+        if (n > 0 && one_in(6))
+            spoil(below(n), (int)below(DAMAGES));
+        put_models(n, n);
+        r = compare_build();
+    }
+    held[PATH] = held[MADE];
+    *accepted = r.refusal == 0 && r.entries > 0 ? n : 0;
+    *tests = r.tests;
+    return r.entries;
+}
+
+// Appends one model, mostly one in order, to a path with a last entry, or to an empty one.
+static struct foldwig_path_result go_on(uint64_t entries, struct foldwig_entry last, struct foldwig_entry *m)
+{
+    *m = entry(last.size + 1 + (one_in(3) ? below(3) : 0), last.loss);
+    if (m->loss > 0)
+        m->loss -= 1 + below(m->loss < 6 ? m->loss : 6);
+    if (one_in(10))
+        m->size = one_in(2) ? last.size : one_in(2) ? wide(m->size) : some_number(65535);
+    if (one_in(10))
+        m->loss = one_in(2) ? last.loss : some_number(TOP);
+    return compare_append(entries, m->size, m->loss);
+}
+
+// A build of the accepted models gives the path of the history, and as many tests.
+static void check_history(uint64_t entries, size_t accepted, uint64_t tests)
+{
+    static uint64_t path[2 * MOST];
+    struct foldwig_path_result r;
+    memcpy(path, held[PATH].at, sizeof path);
+    put_models(accepted, accepted);
+    fresh(MADE, accepted);
+    r = compare_build();
+    expect(r.refusal == (accepted == 0), "a build of the models that a history accepted is refused");
+    expect(r.entries == entries && r.tests == tests, "a build of the models of a history answers something else");
+    expect(memcmp(held[MADE].at, path, (size_t)entries * 2 * sizeof path[0]) == 0, "a build makes another path than a history");
+    expect(accepted == 0 || tests == 2 * accepted - 1 - entries, "the tests of a history are not 2N - 1 - M");
+    memcpy(held[PATH].at, path, sizeof path);
+    held[PATH].len = (size_t)entries;
+}
+
+static void random_histories(int turns)
+{
+    for (int turn = 0; turn < turns; turn++) {
+        size_t accepted;
+        uint64_t tests, entries = begin_history(1 + below(one_in(3) ? 4 : 40), &accepted, &tests);
+        for (size_t left = below(40); left > 0; left--) {
+            struct foldwig_entry m, last = accepted > 0 ? list[accepted - 1] : entry(0, 80 + below(300));
+            struct foldwig_path_result r = go_on(entries, last, &m);
+            if (r.refusal != 0)
+                continue;
+            list[accepted++] = m;
+            tests += r.tests;
+            entries = r.entries;
+        }
+        check_history(entries, accepted, tests);
+        fresh_breakpoints(about((size_t)entries), about((size_t)entries));
+        compare_breakpoints(entries);
+        compare_selections(entries, accepted);
+    }
+}
+
+// ---- Refusals: the causes of each call are brought together in all ways
+
+// The number of entries that is said for a path of n entries with so many places.
+static uint64_t said_entries(int how, size_t n, size_t places)
+{
+    uint64_t said[] = {n, places + 1, 4096, 4097, UINT64_MAX, n + ((uint64_t)1 << 32)};
+    return said[how];
+}
+
+enum { SAYINGS = 6 };
+
+// A path of n entries whose last but one or last is perhaps spoilt.
+static void small_path(size_t n, int damage)
+{
+    static const struct foldwig_entry path[] = {{10, 400}, {20, 300}, {30, 250}, {40, 220}};
+    memcpy(list, path, sizeof path);
+    if (n > 1)
+        spoil(n - 2 + (damage > 2), damage);
+    else if (n == 1 && (damage == 1 || damage == 2 || damage > 6))
+        spoil(0, damage);
+}
+
+static void meet_append(size_t n, int damage, int saying, size_t room)
+{
+    struct foldwig_entry last;
+    small_path(n, damage);
+    last = n > 0 ? list[n - 1] : entry(10, 400);
+    for (int i = 0; i < 56; i++) {
+        uint64_t sizes[] = {last.size + 9, last.size, last.size - 1, 0, 65536, UINT64_MAX, 65535, last.size + 65545};
+        uint64_t losses[] = {last.loss - 1, last.loss, last.loss + 1, TOP + 1, UINT64_MAX, TOP, 0};
+        put_models(n, n + room);
+        compare_append(said_entries(saying, n, n + room), sizes[i / 7], losses[i % 7]);
+    }
+}
+
+static void meet_select(size_t n, int damage, int saying, size_t room)
+{
+    static const uint64_t ps[] = {7, TOP, TOP + 1, UINT64_MAX}, qs[] = {1, 0, 65535, 65536, UINT64_MAX, (uint64_t)1 << 32};
+    small_path(n, damage);
+    put_models(n, n + room);
+    for (int i = 0; i < 24; i++)
+        compare_select(said_entries(saying, n, n + room), ps[i / 6], qs[i % 6]);
+}
+
+static void meet_breakpoints(size_t n, int damage, int saying, size_t room)
+{
+    small_path(n, damage);
+    put_models(n, n + room);
+    for (size_t i = 0; i < 36; i++) {
+        fresh_breakpoints(i / 6, i % 6);
+        compare_breakpoints(said_entries(saying, n, n + room));
+    }
+}
+
+static void meet_paths(void)
+{
+    for (int i = 0; i < 3 * DAMAGES * SAYINGS * 3; i++) {
+        size_t n = i % 3 == 0 ? 0 : i % 3 == 1 ? 1 : 4, room = (size_t)(i / 3 % 3);
+        int damage = i / 9 % DAMAGES, saying = i / 9 / DAMAGES;
+        meet_append(n, damage, saying, room);
+        meet_select(n, damage, saying, room);
+        meet_breakpoints(n, damage, saying, room);
+    }
+}
+
+// Builds of up to four models, of which two are spoilt, and of too many; with all rooms.
+static void meet_builds(void)
+{
+    for (int i = 0; i < DAMAGES * DAMAGES * 6; i++) {
+        small_path(0, 0);
+        spoil(3, i / DAMAGES % DAMAGES);
+        spoil(1, i % DAMAGES);
+        for (size_t n = 0; n <= 4; n++) {
+            put_models(n, n);
+            fresh(MADE, (size_t)(i / DAMAGES / DAMAGES));
+            compare_build();
+        }
+    }
+    for (int damage = 0; damage < DAMAGES; damage++)
+        for (size_t room = 4095; room <= 4098; room++) {
+            make_models(4097, ANY);
+            spoil(2, damage);
+            put_models(4097, 4097);
+            fresh(MADE, room);
+            expect(compare_build().refusal == 2, "a build of 4,097 models");
+        }
+}
+
+// ---- Sizes of more than two bytes
+
+// Such a size on a path gives 8, whatever else is wrong.
+static void wide_on_path(size_t n, size_t at)
+{
+    list[at].size = wide(list[at].size);
+    put_models(n, n + below(3));
+    expect(compare_select(n, some_number(TOP), some_number(65535)).refusal == 8, "a selection from a path with a wide size");
+    fresh_breakpoints(about(n - 1), about(n - 1));
+    expect(compare_breakpoints(n).refusal == 8, "breakpoints of a path with a wide size");
+    expect(compare_append(n, some_number(65535), some_number(TOP)).refusal == 8, "an append to a path with a wide size");
+    expect(compare_append(n, wide(1), some_number(TOP)).refusal == 8, "an append of a wide size to a path with one");
+    expect(compare_append(n, wide(list[at].size), 0).refusal == 8, "an append of a wider size to a path with a wide one");
+}
+
+// Behind the entries that are said it plays no part.
+static void wide_behind_path(size_t n, size_t at)
+{
+    struct foldwig_entry m = list[at];
+    list[at].size = wide(list[at].size);
+    put_models(n, n);
+    expect(compare_select(at, 1, 1).refusal == (at == 0 ? 10 : 0), "a selection from a path with a wide size behind it");
+    fresh_breakpoints(at, at);
+    expect(compare_breakpoints(at).refusal == 0, "breakpoints of a path with a wide size behind it");
+    expect(compare_append(at, m.size, m.loss).refusal == 0, "an append in front of a wide size");
+}
+
+// As a new size it gives 5, before 6, 7 and 9.
+static void wide_new_model(size_t n)
+{
+    uint64_t losses[] = {0, list[n - 1].loss, list[n - 1].loss + 1, TOP + 1};
+    for (int i = 0; i < 4; i++) {
+        put_models(n, n + below(2));
+        expect(compare_append(n, wide(list[n - 1].size + 1), losses[i]).refusal == 5, "an append of a wide size");
+        expect(compare_append(0, wide(1), losses[i]).refusal == 5, "an append of a wide size to an empty path");
+    }
+    fresh(PATH, 0);
+    expect(compare_append(0, wide(1), 0).refusal == 5, "an append of a wide size to no places");
+}
+
+// In a build it gives 5 at its place: before what is wrong with the models behind it and with the room, after what is wrong with
+// those before it.
+static void wide_in_build(size_t n, size_t at)
+{
+    struct foldwig_entry kept;
+    list[at].size = wide(list[at].size);
+    put_models(n, n);
+    fresh(MADE, about(n));
+    expect(compare_build().refusal == 5, "a build with a wide size");
+    if (at + 1 < n)
+        list[at + 1] = one_in(2) ? entry(0, 0) : list[at];
+    put_models(n, n);
+    expect(compare_build().refusal == 5, "a build with a wide size before another bad model");
+    if (at < 2)
+        return;
+    kept = list[at - 1];
+    list[at - 1].size = list[at - 2].size;
+    put_models(n, n);
+    expect(compare_build().refusal == 6, "a build with a wide size behind a size that is not larger");
+    list[at - 1] = entry(kept.size, list[at - 2].loss);
+    put_models(n, n);
+    expect(compare_build().refusal == 7, "a build with a wide size behind a loss that is not smaller");
+}
+
+static void wide_sizes(int turns)
+{
+    for (int turn = 0; turn < turns; turn++) {
+        size_t n = one_in(200) ? 4095 + below(2) : 1 + below(40), at = one_in(3) ? n - 1 : below(n);
+        make_models(n, some_shape());
+        wide_new_model(n);
+        wide_behind_path(n, at);
+        make_models(n, some_shape());
+        wide_on_path(n, at);
+        make_models(n, some_shape());
+        wide_in_build(n, at);
+    }
+}
+
+// ---- Limits
+
+// Builds of about 4,096 models with about as many places, and listings and selections of their paths.
+static void builds_at_limit(enum shape shape)
+{
+    for (size_t n = 4095; n <= 4097; n++)
+        for (size_t room = n - 1; room <= n + 2; room++) {
+            struct foldwig_path_result r;
+            make_models(n, shape);
+            put_models(n, n);
+            fresh(MADE, room);
+            r = compare_build();
+            expect(r.refusal == (n > 4096 ? 2 : room < n ? 9 : 0), "a build of about 4,096 models");
+            held[PATH] = held[MADE];
+            compare_select(r.entries, 0, 1);
+            fresh_breakpoints((size_t)r.entries, (size_t)r.entries);
+            compare_breakpoints(r.entries);
+        }
+}
+
+// Paths of about 4,096 entries, said to have about as many.
+static void paths_at_limit(enum shape shape)
+{
+    for (int i = 0; i < 4 * 4 * 4; i++) {
+        size_t n = 4095 + (size_t)(i % 4), room = 4093 + (size_t)(i / 16);
+        uint64_t said = 4095 + (uint64_t)(i / 4 % 4);
+        struct foldwig_entry last;
+        make_models(MOST, shape);
+        for (size_t j = 0; j < MOST; j++)
+            list[j].loss += 2;
+        last = list[said - 1];
+        put_models(n, n);
+        compare_select(said, below(3), 1);
+        fresh_breakpoints(room, one_in(2) ? room : 4096);
+        compare_breakpoints(said);
+        compare_append(said, last.size + 1, last.loss - 1);
+        put_models(n, n);
+        compare_append(said, 65535, 0);
+        put_models(MOST, MOST);
+        compare_append(said, last.size + 1, last.loss > 900 ? last.loss - 900 : 0);
+    }
+}
+
+// Appends from 4,094 entries up to a full path, one at a time, and then one that drops nothing and one that drops much.
+static void fill_up(void)
+{
+    uint64_t n = 4094;
+    for (size_t i = 0; i < MOST; i++)
+        list[i] = entry(i + 1, 10000 + (MOST - i) * (MOST - i));
+    put_models((size_t)n, MOST);
+    for (; n < 4096; n++)
+        expect(compare_append(n, list[n].size, list[n].loss).entries == n + 1, "an append that drops nothing");
+    expect(compare_append(n, list[n].size, list[n].loss).refusal == 9, "an append to a full path");
+    n = compare_append(n, 4097, 0).entries;
+    expect(n > 0 && n < 4096, "an append to a full path that drops entries");
+    compare_append(n, 65535, 0);
+}
+
+// ---- Threads
+
+static void append_at_limit(void)
+{
+    for (size_t i = 0; i < 4096; i++)
+        list[i] = entry(i + 1, (4096 - i) * (4096 - i));
+    put_models(4095, 4096);
+    expect(compare_append(4095, 4096, 1).entries == 4096, "an append to 4,095 entries on a small stack");
+}
+
+static void build_at_limit(void)
+{
+    make_models(4096, TIED);
+    put_models(4096, 4096);
+    fresh(MADE, 4096);
+    expect(compare_build().refusal == 0, "a build of 4,096 models on a small stack");
+}
+
+static void select_at_limit(void)
+{
+    make_models(4096, FALLING);
+    put_models(4096, 4096);
+    expect(compare_select(4096, 0, 1).index == 4095, "a selection from 4,096 entries on a small stack");
+}
+
+static void breakpoints_at_limit(void)
+{
+    make_models(4096, FALLING);
+    put_models(4096, 4096);
+    fresh_breakpoints(4096, 4096);
+    expect(compare_breakpoints(4096).count == 4095, "4,095 breakpoints on a small stack");
+}
+
+static void *run_in_thread(void *function)
+{
+    (*(void (**)(void))function)();
+    return NULL;
+}
+
+// Runs a function in a thread of its own with a small stack.
+static void on_small_stack(void (*function)(void))
+{
+    pthread_attr_t attributes;
+    pthread_t thread;
+    if (pthread_attr_init(&attributes) != 0 || pthread_attr_setstacksize(&attributes, SMALL_STACK) != 0 ||
+        pthread_create(&thread, &attributes, run_in_thread, &function) != 0) {
+        fprintf(stderr, "no thread can be started\n");
+        exit(2);
+    }
+    pthread_join(thread, NULL);
+    pthread_attr_destroy(&attributes);
+}
+
+// ---- Lengths over 32 bits
+
+// Makes calls with arrays of more than 2^32 elements, of which only a little is looked at. The bytes are all 0 at first.
+static void wide_lengths(void)
+{
+    size_t len = ((size_t)1 << 32) + 1;
+    struct foldwig_entry two[2] = {{0, 0}, {0, 0}};
+    uint64_t a[1] = {0}, b[1] = {0};
+    struct foldwig_entry *e =
+        mmap(NULL, len * sizeof *e, PROT_READ | PROT_WRITE, MAP_PRIVATE | MAP_ANONYMOUS | MAP_NORESERVE, -1, 0);
+    if (e == MAP_FAILED) {
+        printf("no address space for lengths over 32 bits: left out\n");
+        return;
+    }
+    expect(foldwig_append_entries(e, len, 0, 513, 7).entries == 1 && e[0].size == 513 && e[0].loss == 7, "an append in 64 GB");
+    expect(foldwig_append_entries(e, len, 1, 600, 3).entries == 2 && e[1].size == 600 && e[1].loss == 3, "a second one");
+    expect(foldwig_select_entries(e, len, len, 1, 1).refusal == 8, "a path of 2^32 + 1 entries");
+    expect(foldwig_select_entries(e, len, 2, 0, 1).index == 1, "a selection in 64 GB");
+    expect(foldwig_breakpoints_entries(e, len, 2, a, 1, b, 1).count == 1 && a[0] == 4 && b[0] == 87, "a breakpoint in 64 GB");
+    expect(foldwig_build_entries(e, len, two, 2).refusal == 2 && two[0].size == 0, "a build of 2^32 + 1 models");
+    two[0] = entry(5, 9);
+    expect(foldwig_build_entries(two, 1, e, len).entries == 1 && e[0].size == 5 && e[1].size == 600, "a build to 64 GB");
+    munmap(e, len * sizeof *e);
+}
+
+// ---- The summary
+
+// Counts what of a call was never seen, and prints it.
+static int unseen(enum call call)
+{
+    int count = 0;
+    for (int i = 0; i < ARRAYS; i++)
+        if (lent_to[call][i] && nulls[call][i] == 0) {
+            printf("not seen: %s with null as array %d\n", names[call], i);
+            count++;
+        }
+    for (const int *number = orders[call]; *number != 0; number++)
+        if (refusals[call][*number] == 0) {
+            printf("not seen: %s with refusal %d\n", names[call], *number);
+            count++;
+        }
+    return count;
+}
+
+// Prints what was compared, and answers the status of the program: 0 if nothing differed and if every refusal and null for every
+// array was seen.
+static int summary(void)
+{
+    unsigned long all = 0;
+    int missing = 0;
+    for (int call = 0; call < CALLS; call++) {
+        printf("%-12s %7lu calls, %7lu accepted\n", names[call], calls[call], refusals[call][0]);
+        all += calls[call];
+        if (mismatches == 0)
+            missing += unseen((enum call)call);
+    }
+    printf("calls compared: %lu, mismatches: %lu\n", all, mismatches);
+    return mismatches > 0 || missing > 0;
+}
+
+int main(int argc, char **argv)
+{
+    uint64_t seed = argc > 1 ? strtoull(argv[1], NULL, 10) : 20230417;
+    setvbuf(stdout, NULL, _IOLBF, 0);
+    printf("seed %llu\n", (unsigned long long)seed);
+    state = seed;
+    map_spans();
+    random_builds(40000);
+    random_paths(30000);
+    random_histories(5000);
+    wide_sizes(3000);
+    meet_paths();
+    meet_builds();
+    for (int shape = 0; shape < SHAPES; shape++) {
+        builds_at_limit((enum shape)shape);
+        paths_at_limit((enum shape)shape);
+    }
+    fill_up();
+    on_small_stack(append_at_limit);
+    on_small_stack(build_at_limit);
+    on_small_stack(select_at_limit);
+    on_small_stack(breakpoints_at_limit);
+    wide_lengths();
+    return summary();
+}
