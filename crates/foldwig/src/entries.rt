@@ -1,5 +1,5 @@
-// The calls in C on a path that lies in one list of entries, each a size and a loss together. Each is the call of the crate `models`
-// under the library's name.
+// The calls in C on a path in one list of structs, where a size stands beside its loss. Each is the call of the crate `models` under
+// the library's name.
 
 ghost use mathlib.Core.Path.{_≡_};
 ghost use Rattle.path.specs.Model.{model};

@@ -1,5 +1,5 @@
-// The path calls on a list of entries, each a size and a loss together. A call copies the entries that it may look at to two lists
-// of its own, makes the call on numbers, and where that fills a path copies the lists back.
+// The path calls on a list of entries, in which a size stands beside its loss. A call copies the entries that it may look at to two
+// lists of its own, makes the call on numbers, and where that fills a path copies the lists back.
 
 ghost use mathlib.Core.Path.{_≡_};
 ghost use Prim.Native.Nat.{min};
