@@ -1,8 +1,11 @@
-// Times the library's segmentation call and the plain C one on the same signals, in one process, and prints a table. The two take turns,
-// so that both meet the same load of the machine; a time is the least CPU time of one call over all turns. Every answer of the one
-// is compared with the other's first, on these signals at several penalties and on many short random ones.
-// Usage: main [TURNS]
-#include "plain.h"
+// Times the library's segmentation call beside two implementations in C on the same signals, in one process, and prints tables. The
+// three take turns, so that all meet the same load of the machine, and each turn goes through all signals; a time is the least CPU
+// time of one call over all turns. The answers of all three are compared first, on these signals at several penalties and on many
+// short random ones. Ends with status 1 where an answer differs, or the library is slower than wanted.
+// Usage: main [TURNS]          the tables
+//        main curve [TURNS]    the library's time alone, over the number of samples and the limit
+#include "signals.h"
+#include "split.h"
 #include <foldwig.h>
 #include <stdbool.h>
 #include <stdio.h>
@@ -10,14 +13,32 @@
 #include <string.h>
 #include <time.h>
 
-enum { SIGNALS = 4, PENALTIES = 5, SHORT_SIGNALS = 2000 };
+enum { DRAWS = 6, MAX_SIGNALS = DRAWS * KINDS, PENALTIES = 5, SHORT_SIGNALS = 20000 };
 
-// A signal, and how many times as fast as the plain implementation the library is wanted to be on it.
+// What is wanted at 512 samples and limit 32, of every draw: so many times as fast as the plain implementation on every kind but the
+// alternating one, behind the full table on no more than so many kinds, and nowhere above so many times its time.
+#define WANTED_TIMES_PLAIN 5.0
+#define WANTED_MOST_OF_FULL 1.2
+enum { WANTED_MOST_BEHIND = 2 };
+
+// The penalty that is timed.
+enum { P = 200000, Q = 3 };
+
 struct signal {
-    const char *name;
-    double wanted;
+    enum kind kind;
     size_t n;
     int16_t samples[MAX_SAMPLES];
+};
+
+// Number of samples and limit.
+struct shape {
+    size_t n, limit;
+};
+
+enum implementation { PLAIN, FULL, OURS, IMPLEMENTATIONS };
+
+struct range {
+    double low, high;
 };
 
 // What a call is lent, and what it left there. The numbers are those of this machine, which keeps the low byte first.
@@ -29,77 +50,69 @@ struct lent {
     uint8_t scratch[FOLDWIG_SCRATCH_LEN];
 };
 
-static struct foldwig_split_result library_split(const struct signal *s, size_t max_segments, int64_t p, int64_t q, struct lent *lent)
+// Any of the three. The library's answer is taken as one of the others, and a refusal as 0 segments.
+static struct split_answer split(enum implementation which, const struct signal *s, size_t limit, int64_t p, int64_t q,
+                                 struct lent *lent)
 {
-    return foldwig_split((const uint8_t *)s->samples, s->n * sizeof *s->samples, max_segments, (uint64_t)p, (uint64_t)q,
-                         (uint8_t *)lent->starts, sizeof lent->starts, (uint8_t *)lent->levels, sizeof lent->levels,
-                         (uint8_t *)lent->path_sizes, sizeof lent->path_sizes, (uint8_t *)lent->path_losses,
-                         sizeof lent->path_losses, lent->scratch, sizeof lent->scratch);
+    if (which == PLAIN)
+        return plain_split(s->samples, s->n, limit, p, q, lent->starts, lent->levels);
+    if (which == FULL)
+        return full_split(s->samples, s->n, limit, p, q, lent->starts, lent->levels);
+    struct foldwig_split_result r = foldwig_split(
+        (const uint8_t *)s->samples, s->n * sizeof *s->samples, limit, (uint64_t)p, (uint64_t)q, (uint8_t *)lent->starts,
+        sizeof lent->starts, (uint8_t *)lent->levels, sizeof lent->levels, (uint8_t *)lent->path_sizes, sizeof lent->path_sizes,
+        (uint8_t *)lent->path_losses, sizeof lent->path_losses, lent->scratch, sizeof lent->scratch);
+    return (struct split_answer){r.segments, (int64_t)r.loss};
 }
 
-// A random number of 64 bits, the same ones each time the program is started.
-static uint64_t random64(void)
+// All signals of n samples: the kinds in order, and of each its draws. Answers how many they are.
+static int make_signals(struct signal *signals, size_t n)
 {
-    static uint64_t state = 88172645463325252u;
-    state ^= state << 13;
-    state ^= state >> 7;
-    state ^= state << 17;
-    return state;
+    int count = 0;
+    for (enum kind kind = 0; kind < KINDS; kind++)
+        for (unsigned draw = 0; draw < (is_drawn(kind) ? DRAWS : 1); draw++) {
+            signals[count].kind = kind;
+            signals[count].n = n;
+            make_signal(kind, draw, n, signals[count].samples);
+            count++;
+        }
+    return count;
 }
 
-// A random number from low to high.
-static int random_in(int low, int high)
+// Whether all implementations give the same segments, loss, starts and levels, and the library's leaves the scratch zero.
+static bool same_answers(const struct signal *s, size_t limit, int64_t p, int64_t q)
 {
-    return low + (int)(random64() % (uint64_t)(high - low + 1));
-}
-
-static void make_signals(struct signal *s)
-{
-    enum { STEPS = 12 };
-    int step = 0;
-    s[0] = (struct signal){.name = "random", .wanted = 1.0, .n = MAX_SAMPLES};
-    s[1] = (struct signal){.name = "steps", .wanted = 3.0, .n = MAX_SAMPLES};
-    s[2] = (struct signal){.name = "ramp", .wanted = 1.0, .n = MAX_SAMPLES};
-    s[3] = (struct signal){.name = "constant", .wanted = 1.0, .n = MAX_SAMPLES};
-    for (int i = 0; i < MAX_SAMPLES; i++) {
-        if (i == 0 || i * STEPS / MAX_SAMPLES != (i - 1) * STEPS / MAX_SAMPLES)
-            step = random_in(-2000, 2000);
-        s[0].samples[i] = (int16_t)random_in(INT16_MIN, INT16_MAX);
-        s[1].samples[i] = (int16_t)(step + random_in(-20, 20));
-        s[2].samples[i] = (int16_t)(100 * (i - MAX_SAMPLES / 2));
-        s[3].samples[i] = 1234;
+    static struct lent lent[IMPLEMENTATIONS];
+    static const uint8_t zeros[FOLDWIG_SCRATCH_LEN];
+    struct split_answer answers[IMPLEMENTATIONS];
+    memset(lent, 0xa5, sizeof lent);
+    for (enum implementation i = 0; i < IMPLEMENTATIONS; i++) {
+        answers[i] = split(i, s, limit, p, q, &lent[i]);
+        if (answers[i].segments != answers[0].segments || answers[i].loss != answers[0].loss ||
+            memcmp(lent[i].starts, lent[0].starts, sizeof lent[0].starts) != 0 ||
+            memcmp(lent[i].levels, lent[0].levels, sizeof lent[0].levels) != 0)
+            return false;
     }
+    return memcmp(lent[OURS].scratch, zeros, sizeof zeros) == 0;
 }
 
-// Whether both implementations give the same segments, loss, starts and levels, and the library's leaves the scratch zero.
-static bool same_answers(const struct signal *s, size_t max_segments, int64_t p, int64_t q)
+static bool all_same(const struct signal *signals, int count, size_t limit)
 {
-    static struct lent lent;
-    uint16_t starts[MAX_SEGMENTS];
-    int16_t levels[MAX_SEGMENTS];
-    struct plain_answer plain = plain_split(s->samples, s->n, max_segments, p, q, starts, levels);
-    memset(&lent, 0xa5, sizeof lent);
-    struct foldwig_split_result ours = library_split(s, max_segments, p, q, &lent);
-    bool zero = true;
-    for (size_t i = 0; i < FOLDWIG_SCRATCH_LEN; i++)
-        zero = zero && lent.scratch[i] == 0;
-    return zero && ours.refusal == 0 && ours.segments == plain.segments && ours.loss == (uint64_t)plain.loss &&
-           memcmp(starts, lent.starts, plain.segments * sizeof *starts) == 0 &&
-           memcmp(levels, lent.levels, plain.segments * sizeof *levels) == 0;
-}
-
-static bool all_same(const struct signal *signals)
-{
-    static const int64_t penalties[PENALTIES][2] = {{0, 1}, {1, 2}, {200000, 3}, {1000000000, 1}, {17592186044416, 1}};
-    for (int i = 0; i < SIGNALS; i++)
+    static const int64_t penalties[PENALTIES][2] = {{0, 1}, {1, 2}, {P, Q}, {1000000000, 1}, {17592186044416, 1}};
+    for (int i = 0; i < count; i++)
         for (int j = 0; j < PENALTIES; j++)
-            if (!same_answers(&signals[i], MAX_SEGMENTS, penalties[j][0], penalties[j][1])) {
-                printf("the answers differ: %s at the penalty %lld / %lld\n", signals[i].name, (long long)penalties[j][0],
-                       (long long)penalties[j][1]);
+            if (!same_answers(&signals[i], limit, penalties[j][0], penalties[j][1])) {
+                printf("the answers differ: %s, %zu samples, limit %zu, at the penalty %lld / %lld\n", kind_names[signals[i].kind],
+                       signals[i].n, limit, (long long)penalties[j][0], (long long)penalties[j][1]);
                 return false;
             }
+    return true;
+}
+
+static bool all_same_short(void)
+{
     for (int i = 0; i < SHORT_SIGNALS; i++) {
-        struct signal s = {.name = "short", .n = (size_t)random_in(1, 40)};
+        struct signal s = {.kind = RANDOM, .n = (size_t)random_in(1, 40)};
         int range = 1 << random_in(0, 15);
         for (size_t k = 0; k < s.n; k++)
             s.samples[k] = (int16_t)random_in(-range, range - 1);
@@ -119,43 +132,146 @@ static double now(void)
     return 1e6 * (double)t.tv_sec + 1e-3 * (double)t.tv_nsec;
 }
 
-// The least times of a call of each, over so many turns.
-static void time_both(const struct signal *s, int turns, double *plain, double *ours)
+// The time of a call. Short ones are called several times between two looks at the clock.
+static double time_call(enum implementation which, const struct signal *s, size_t limit)
 {
     static struct lent lent;
-    uint16_t starts[MAX_SEGMENTS];
-    int16_t levels[MAX_SEGMENTS];
-    *plain = 1e30;
-    *ours = 1e30;
-    for (int i = 0; i < turns; i++) {
-        double before = now();
-        plain_split(s->samples, s->n, MAX_SEGMENTS, 200000, 3, starts, levels);
-        double between = now();
-        library_split(s, MAX_SEGMENTS, 200000, 3, &lent);
-        double after = now();
-        if (between - before < *plain)
-            *plain = between - before;
-        if (after - between < *ours)
-            *ours = after - between;
+    int calls = s->n < 128 ? (int)(1024 / s->n) : 1;
+    double before = now();
+    for (int i = 0; i < calls; i++)
+        split(which, s, limit, P, Q, &lent);
+    return (now() - before) / calls;
+}
+
+// One turn through all signals, with each implementation from the given one on to the library: lowers the least times of a call.
+static void take_turn(const struct signal *signals, int count, size_t limit, enum implementation from,
+                      double least[][IMPLEMENTATIONS])
+{
+    for (int i = 0; i < count; i++)
+        for (enum implementation which = from; which < IMPLEMENTATIONS; which++) {
+            double time = time_call(which, &signals[i], limit);
+            least[i][which] = time < least[i][which] ? time : least[i][which];
+        }
+}
+
+// Least times before the first turn.
+static void forget(double least[MAX_SIGNALS][IMPLEMENTATIONS])
+{
+    for (int i = 0; i < MAX_SIGNALS; i++)
+        for (enum implementation which = 0; which < IMPLEMENTATIONS; which++)
+            least[i][which] = 1e30;
+}
+
+static void widen(struct range *r, double value)
+{
+    r->low = value < r->low ? value : r->low;
+    r->high = value > r->high ? value : r->high;
+}
+
+// Prints a mean and, where it is wider than one value, the range.
+static void print_range(double mean, struct range r, int digits)
+{
+    printf(" %.*f", digits, mean);
+    if (r.low < r.high)
+        printf(" (%.*f to %.*f)", digits, r.low, digits, r.high);
+    printf(" |");
+}
+
+// Prints the rows of a table, one for each kind: the mean times of its draws and their ratios, each with the range over the draws. Says
+// whether what is wanted is reached on every draw.
+static bool print_rows(const struct signal *signals, int count, double least[][IMPLEMENTATIONS], int digits)
+{
+    bool reached = true;
+    int behind = 0;
+    for (int i = 0; i < count;) {
+        const struct range none = {1e30, 0};
+        enum kind kind = signals[i].kind;
+        struct range times[IMPLEMENTATIONS] = {none, none, none}, of_plain = none, of_full = none;
+        double sums[IMPLEMENTATIONS] = {0, 0, 0};
+        int draws = 0;
+        for (; i < count && signals[i].kind == kind; i++, draws++) {
+            for (enum implementation which = 0; which < IMPLEMENTATIONS; which++) {
+                widen(&times[which], least[i][which]);
+                sums[which] += least[i][which];
+            }
+            widen(&of_plain, least[i][PLAIN] / least[i][OURS]);
+            widen(&of_full, least[i][FULL] / least[i][OURS]);
+        }
+        printf("| %s |", kind_names[kind]);
+        for (enum implementation which = 0; which < IMPLEMENTATIONS; which++)
+            print_range(sums[which] / draws, times[which], digits);
+        print_range(sums[PLAIN] / sums[OURS], of_plain, 1);
+        print_range(sums[FULL] / sums[OURS], of_full, 2);
+        puts("");
+        behind += of_full.low < 1;
+        reached = reached && (kind == ALTERNATING || of_plain.low >= WANTED_TIMES_PLAIN) && of_full.low * WANTED_MOST_OF_FULL >= 1;
     }
+    return reached && behind <= WANTED_MOST_BEHIND;
+}
+
+// Compares and times at each shape. What is wanted holds for the first.
+static int print_tables(int turns)
+{
+    static const struct shape shapes[] = {{512, 32}, {512, 16}, {512, 8}, {128, 32}, {32, 8}, {8, 4}};
+    static struct signal signals[MAX_SIGNALS];
+    static double least[MAX_SIGNALS][IMPLEMENTATIONS];
+    bool reached = true;
+    for (size_t i = 0; i < sizeof shapes / sizeof shapes[0]; i++)
+        if (!all_same(signals, make_signals(signals, shapes[i].n), shapes[i].limit))
+            return 1;
+    if (!all_same_short())
+        return 1;
+    printf("The answers of all three are equal. Microseconds a call, least of %d turns.\n", turns);
+    for (size_t i = 0; i < sizeof shapes / sizeof shapes[0]; i++) {
+        int count = make_signals(signals, shapes[i].n);
+        forget(least);
+        for (int t = 0; t < turns; t++)
+            take_turn(signals, count, shapes[i].limit, PLAIN, least);
+        printf("\n%zu samples, limit %zu:\n\n", shapes[i].n, shapes[i].limit);
+        puts("| signal | plain C | full-table C | library | plain / library | full-table / library |\n|---|---|---|---|---|---|");
+        bool enough = print_rows(signals, count, least, shapes[i].n < 128 ? 2 : 0);
+        reached = reached && (i > 0 || enough);
+        fflush(stdout);
+    }
+    printf("\n%s\n", reached ? "All that is wanted is reached." : "NOT all that is wanted is reached.");
+    return reached ? 0 : 1;
+}
+
+// The library's time at each number of samples and limit: the mean of the draws of a flow of 15 levels, and the least and the greatest
+// of all signals. A turn goes through all of them, so that no point of the curve meets another load than its neighbours.
+static int print_curve(int turns)
+{
+    enum { POINTS = 16 };
+    static struct signal signals[MAX_SIGNALS];
+    static double least[POINTS][MAX_SIGNALS][IMPLEMENTATIONS];
+    struct shape shapes[POINTS];
+    for (int i = 0; i < POINTS; i++) {
+        shapes[i] = (struct shape){(size_t)64 << i / 4, (size_t)4 << i % 4};
+        forget(least[i]);
+    }
+    for (int t = 0; t < turns; t++)
+        for (int i = 0; i < POINTS; i++)
+            take_turn(signals, make_signals(signals, shapes[i].n), shapes[i].limit, OURS, least[i]);
+    puts("| samples | limit | flow, 15 levels | least of all | greatest of all | on |\n|---|---|---|---|---|---|");
+    for (int i = 0; i < POINTS; i++) {
+        struct range all = {1e30, 0};
+        double sum = 0;
+        int count = make_signals(signals, shapes[i].n), dearest = 0;
+        for (int j = 0; j < count; j++) {
+            widen(&all, least[i][j][OURS]);
+            dearest = least[i][j][OURS] == all.high ? j : dearest;
+            sum += signals[j].kind == FLOW_15 ? least[i][j][OURS] : 0;
+        }
+        printf("| %zu | %zu | %.1f | %.1f | %.1f | %s |\n", shapes[i].n, shapes[i].limit, sum / DRAWS, all.low, all.high,
+               kind_names[signals[dearest].kind]);
+    }
+    return 0;
 }
 
 int main(int argc, char **argv)
 {
-    static struct signal signals[SIGNALS];
-    int turns = argc > 1 ? atoi(argv[1]) : 60;
-    bool reached = true;
-    make_signals(signals);
-    if (!all_same(signals))
-        return 1;
-    printf("%d samples, limit %d, least of %d turns, microseconds a call\n\n", MAX_SAMPLES, MAX_SEGMENTS, turns);
-    printf("| signal | plain C | library | plain / library | wanted |\n|---|---|---|---|---|\n");
-    for (int i = 0; i < SIGNALS; i++) {
-        double plain, ours;
-        time_both(&signals[i], turns, &plain, &ours);
-        printf("| %s | %.0f | %.0f | %.2f | %.1f |\n", signals[i].name, plain, ours, plain / ours, signals[i].wanted);
-        reached = reached && plain >= signals[i].wanted * ours;
-    }
-    printf("\nanswers equal; %s\n", reached ? "all that is wanted is reached" : "NOT all that is wanted is reached");
-    return reached ? 0 : 1;
+    bool curve = argc > 1 && strcmp(argv[1], "curve") == 0;
+    int given = curve ? 2 : 1;
+    int turns = argc > given ? atoi(argv[given]) : 40;
+    return curve ? print_curve(turns) : print_tables(turns);
 }

@@ -1,6 +1,6 @@
 // Segmentation of a signal by the textbook dynamic programme, as an engineer would write it in C: 64-bit integers, prefix sums, a full
 // table of least losses and one of starts, every start of a last segment tried (max_segments * n * n / 2 of them).
-#include "plain.h"
+#include "split.h"
 
 // Prefix sums: of the first j samples, and of their squares.
 struct sums {
@@ -40,8 +40,8 @@ static int64_t segment_loss(const struct sums *s, size_t from, size_t to)
     return s->square[to] - s->square[from] - 2 * level * sum + len * level * level;
 }
 
-struct plain_answer plain_split(const int16_t *samples, size_t n, size_t max_segments, int64_t p, int64_t q,
-                                uint16_t *starts, int16_t *levels)
+struct split_answer plain_split(const int16_t *samples, size_t n, size_t max_segments, int64_t p, int64_t q, uint16_t *starts,
+                                int16_t *levels)
 {
     struct sums s;
     int64_t least[MAX_SEGMENTS + 1][MAX_SAMPLES + 1];     // least[k][j]: of k segments over the first j samples
@@ -78,5 +78,5 @@ struct plain_answer plain_split(const int16_t *samples, size_t n, size_t max_seg
         levels[k - 1] = (int16_t)level_of(s.sum[j] - s.sum[i], (int64_t)(j - i));
         j = i;
     }
-    return (struct plain_answer){segments, least[segments][n]};
+    return (struct split_answer){segments, least[segments][n]};
 }
