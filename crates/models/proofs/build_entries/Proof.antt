@@ -345,39 +345,11 @@ module _ {M : Type 1} (𝓤 : URA M) (H : Heap 𝓤) (A : Atoms 𝓤) (W : Given
     returns-it : (w : Val) (d : PathResult × (List ℕ × List ℕ)) (e : Said l₃ l₄ l₅ l₆ d) (is : Is S.the-row (d .0) (w ∷ [])) → Sq W (‵ (row u64 fullShare (d .1 .0) l₅ 0) ∷ ‵ (row u64 fullShare (d .1 .1) l₆ 0) ∷ ‵ (finally R γ₁ (stored ys (d .1 .0) (d .1 .1) m)) ∷ ‵ (flft κ₁ q₁) ∷ ‵ (S.the-row .own (d .0) (w ∷ [])) ∷ ‵ (row u64 fullShare model-sizes l₃ 0) ∷ ‵ (row u64 fullShare model-losses l₄ 0) ∷ ‵ (flft κ q) ∷ models ∷ ‵ (fat fullShare imm-slice l₃₄ 0 (sliceVal (l₆, 0) 4096)) ∷ ‵ (fdies imm-slice l₃₄) ∷ ‵ (fat fullShare imm-array l₃₃ 0 (vptr l₆ 0)) ∷ ‵ (fdies imm-array l₃₃) ∷ ‵ (fat fullShare imm-slice l₃₂ 0 (sliceVal (l₅, 0) 4096)) ∷ ‵ (fdies imm-slice l₃₂) ∷ ‵ (fat fullShare imm-array l₃₁ 0 (vptr l₅ 0)) ∷ ‵ (fdies imm-array l₃₁) ∷ ‵ (fat fullShare mut-entries l₃₀ 0 s₁) ∷ ‵ (fdies mut-entries l₃₀) ∷ ‵ (fat fullShare mut-entry l₂₉ 0 (vptr b₁ o₁)) ∷ ‵ (fdies mut-entry l₂₉) ∷ ‵ (fat fullShare tyUnit l₂₈ 0 vunit) ∷ ‵ (fdies tyUnit l₂₈) ∷ ‵ (fat fullShare mut-slice l₂₇ 0 (sliceVal (l₆, 0) 4096)) ∷ ‵ (fdies mut-slice l₂₇) ∷ ‵ (fat fullShare mut-array l₂₆ 0 (vptr l₆ 0)) ∷ ‵ (fdies mut-array l₂₆) ∷ ‵ (fat fullShare mut-slice l₂₅ 0 (sliceVal (l₅, 0) 4096)) ∷ ‵ (fdies mut-slice l₂₅) ∷ ‵ (fat fullShare mut-array l₂₄ 0 (vptr l₅ 0)) ∷ ‵ (fdies mut-array l₂₄) ∷ ‵ (fat fullShare imm-slice l₂₃ 0 (sliceVal (l₄, 0) 4097)) ∷ ‵ (fdies imm-slice l₂₃) ∷ ‵ (fat fullShare imm-array′ l₂₂ 0 (vptr l₄ 0)) ∷ ‵ (fdies imm-array′ l₂₂) ∷ ‵ (fat fullShare imm-slice l₂₁ 0 (sliceVal (l₃, 0) 4097)) ∷ ‵ (fdies imm-slice l₂₁) ∷ ‵ (fat fullShare imm-array′ l₂₀ 0 (vptr l₃ 0)) ∷ ‵ (fdies imm-array′ l₂₀) ∷ ‵ (fat fullShare mut-slice l₁₉ 0 (sliceVal (l₆, 0) 4096)) ∷ ‵ (fdies mut-slice l₁₉) ∷ ‵ (fat fullShare mut-array l₁₈ 0 (vptr l₆ 0)) ∷ ‵ (fdies mut-array l₁₈) ∷ ‵ (fat fullShare mut-slice l₁₇ 0 (sliceVal (l₅, 0) 4096)) ∷ ‵ (fdies mut-slice l₁₇) ∷ ‵ (fat fullShare mut-array l₁₆ 0 (vptr l₅ 0)) ∷ ‵ (fdies mut-array l₁₆) ∷ ‵ (fat fullShare imm-entries l₁₅ 0 s₁) ∷ ‵ (fdies imm-entries l₁₅) ∷ ‵ (fat fullShare imm-entry l₁₄ 0 (vptr b₁ o₁)) ∷ ‵ (fdies imm-entry l₁₄) ∷ ‵ (fat fullShare mut-slice l₁₃ 0 (sliceVal (l₄, 0) 4097)) ∷ ‵ (fdies mut-slice l₁₃) ∷ ‵ (fat fullShare mut-array′ l₁₂ 0 (vptr l₄ 0)) ∷ ‵ (fdies mut-array′ l₁₂) ∷ ‵ (fat fullShare mut-slice l₁₁ 0 (sliceVal (l₃, 0) 4097)) ∷ ‵ (fdies mut-slice l₁₁) ∷ ‵ (fat fullShare mut-array′ l₁₀ 0 (vptr l₃ 0)) ∷ ‵ (fdies mut-array′ l₁₀) ∷ ‵ (fat fullShare S′.mir l₉ 0 w) ∷ ‵ (fdies S′.mir l₉) ∷ ‵ (fat fullShare word l₈ 0 (vint w64 m)) ∷ ‵ (fdies word l₈) ∷ ‵ (fat fullShare word l₇ 0 (vint w64 c)) ∷ ‵ (fdies word l₇) ∷ ‵ (fdies array l₆) ∷ ‵ (fdies array l₅) ∷ ‵ (fdies array′ l₄) ∷ ‵ (fdies array′ l₃) ∷ ‵ (fat fullShare to-slice l₂ 0 s₁) ∷ ‵ (fdies to-slice l₂) ∷ ‵ (fat fullShare from-slice l₁ 0 s) ∷ ‵ (fdies from-slice l₁) ∷ ‵ (froom S′.mir l₀ 0) ∷ ‵ (fdies S′.mir l₀) ∷ []) (runs C Λ Ev pieces.t-33 (atRet Ev Post))
     returns-it w d e is =
         assigns ! (of-opd ! (load ! (from ! (stop !)) (look ! 59 refl))) (from ! (stop !)) (init ! 73 refl (LL.lawful S.the-type S′.the-laws 𝓤 H A W .typed (d .0) _ is .0)) $
-        returns ! (look ! 73 refl) $
-        forget ! 73 refl $
-        forget ! 71 refl $
-        forget ! 69 refl $
-        forget ! 63 refl $
-        forget ! 61 refl $
-        forget ! 59 refl $
-        forget ! 57 refl $
-        forget ! 55 refl $
-        forget ! 53 refl $
-        forget ! 51 refl $
-        forget ! 49 refl $
-        forget ! 47 refl $
-        forget ! 45 refl $
-        forget ! 43 refl $
-        forget ! 41 refl $
-        forget ! 39 refl $
-        forget ! 37 refl $
-        forget ! 35 refl $
-        forget ! 33 refl $
-        forget ! 31 refl $
-        forget ! 29 refl $
-        forget ! 27 refl $
-        forget ! 25 refl $
-        forget ! 23 refl $
-        forget ! 21 refl $
-        forget ! 19 refl $
-        forget ! 17 refl $
-        forget ! 15 refl $
-        forget ! 13 refl $
-        forget ! 11 refl $
-        forget ! 9 refl $
-        move ! (5 ∷ []) $
+        returns ! (look ! 73 refl) $ forget ! 73 refl $ forget ! 71 refl $ forget ! 69 refl $ forget ! 63 refl $ forget ! 61 refl $ forget ! 59 refl $
+        forget ! 57 refl $ forget ! 55 refl $ forget ! 53 refl $ forget ! 51 refl $ forget ! 49 refl $ forget ! 47 refl $ forget ! 45 refl $
+        forget ! 43 refl $ forget ! 41 refl $ forget ! 39 refl $ forget ! 37 refl $ forget ! 35 refl $ forget ! 33 refl $ forget ! 31 refl $
+        forget ! 29 refl $ forget ! 27 refl $ forget ! 25 refl $ forget ! 23 refl $ forget ! 21 refl $ forget ! 19 refl $ forget ! 17 refl $
+        forget ! 15 refl $ forget ! 13 refl $ forget ! 11 refl $ forget ! 9 refl $ move ! (5 ∷ []) $
         use1 W (‵ (froom array′ l₃ 0)) (row-room 𝓤 H A W 4097 l₃ model-sizes model-sizes-long) $
         move ! (6 ∷ []) $
         use1 W (‵ (froom array′ l₄ 0)) (row-room 𝓤 H A W 4097 l₄ model-losses model-losses-long) $
@@ -385,100 +357,27 @@ module _ {M : Type 1} (𝓤 : URA M) (H : Heap 𝓤) (A : Atoms 𝓤) (W : Given
         use1 W (‵ (froom array l₅ 0)) (row-room 𝓤 H A W 4096 l₅ (d .1 .0) (e .0)) $
         move ! (3 ∷ []) $
         use1 W (‵ (froom array l₆ 0)) (row-room 𝓤 H A W 4096 l₆ (d .1 .1) (e .1)) $
-        move ! (73 ∷ 74 ∷ []) $
-        free1 ! $
-        move ! (71 ∷ 72 ∷ []) $
-        free1 ! $
-        move ! (69 ∷ 70 ∷ []) $
-        free1 ! $
-        move ! (3 ∷ 68 ∷ []) $
-        free1 ! $
-        move ! (2 ∷ 66 ∷ []) $
-        free1 ! $
-        move ! (1 ∷ 64 ∷ []) $
-        free1 ! $
-        move ! (0 ∷ 62 ∷ []) $
-        free1 ! $
-        move ! (59 ∷ 60 ∷ []) $
-        free1 ! $
-        move ! (57 ∷ 58 ∷ []) $
-        free1 ! $
-        move ! (55 ∷ 56 ∷ []) $
-        free1 ! $
-        move ! (53 ∷ 54 ∷ []) $
-        free1 ! $
-        move ! (51 ∷ 52 ∷ []) $
-        free1 ! $
-        move ! (49 ∷ 50 ∷ []) $
-        free1 ! $
-        move ! (47 ∷ 48 ∷ []) $
-        free1 ! $
-        move ! (45 ∷ 46 ∷ []) $
-        free1 ! $
-        move ! (43 ∷ 44 ∷ []) $
-        free1 ! $
-        move ! (41 ∷ 42 ∷ []) $
-        free1 ! $
-        move ! (39 ∷ 40 ∷ []) $
-        free1 ! $
-        move ! (37 ∷ 38 ∷ []) $
-        free1 ! $
-        move ! (35 ∷ 36 ∷ []) $
-        free1 ! $
-        move ! (33 ∷ 34 ∷ []) $
-        free1 ! $
-        move ! (31 ∷ 32 ∷ []) $
-        free1 ! $
-        move ! (29 ∷ 30 ∷ []) $
-        free1 ! $
-        move ! (27 ∷ 28 ∷ []) $
-        free1 ! $
-        move ! (25 ∷ 26 ∷ []) $
-        free1 ! $
-        move ! (23 ∷ 24 ∷ []) $
-        free1 ! $
-        move ! (21 ∷ 22 ∷ []) $
-        free1 ! $
-        move ! (19 ∷ 20 ∷ []) $
-        free1 ! $
-        move ! (17 ∷ 18 ∷ []) $
-        free1 ! $
-        move ! (15 ∷ 16 ∷ []) $
-        free1 ! $
-        move ! (13 ∷ 14 ∷ []) $
-        free1 ! $
-        move ! (11 ∷ 12 ∷ []) $
-        free1 ! $
-        move ! (9 ∷ 10 ∷ []) $
-        free1 ! $
-        move ! (7 ∷ 8 ∷ []) $
-        free1 ! $
-        move ! (5 ∷ 6 ∷ []) $
-        free1 ! $
-        free0 ! $
-        keep ! (3 ∷ 1 ∷ 4 ∷ 0 ∷ 2 ∷ []) $
+        move ! (73 ∷ 74 ∷ []) $ free1 ! $ move ! (71 ∷ 72 ∷ []) $ free1 ! $ move ! (69 ∷ 70 ∷ []) $ free1 ! $ move ! (3 ∷ 68 ∷ []) $ free1 ! $
+        move ! (2 ∷ 66 ∷ []) $ free1 ! $ move ! (1 ∷ 64 ∷ []) $ free1 ! $ move ! (0 ∷ 62 ∷ []) $ free1 ! $ move ! (59 ∷ 60 ∷ []) $ free1 ! $
+        move ! (57 ∷ 58 ∷ []) $ free1 ! $ move ! (55 ∷ 56 ∷ []) $ free1 ! $ move ! (53 ∷ 54 ∷ []) $ free1 ! $ move ! (51 ∷ 52 ∷ []) $ free1 ! $
+        move ! (49 ∷ 50 ∷ []) $ free1 ! $ move ! (47 ∷ 48 ∷ []) $ free1 ! $ move ! (45 ∷ 46 ∷ []) $ free1 ! $ move ! (43 ∷ 44 ∷ []) $ free1 ! $
+        move ! (41 ∷ 42 ∷ []) $ free1 ! $ move ! (39 ∷ 40 ∷ []) $ free1 ! $ move ! (37 ∷ 38 ∷ []) $ free1 ! $ move ! (35 ∷ 36 ∷ []) $ free1 ! $
+        move ! (33 ∷ 34 ∷ []) $ free1 ! $ move ! (31 ∷ 32 ∷ []) $ free1 ! $ move ! (29 ∷ 30 ∷ []) $ free1 ! $ move ! (27 ∷ 28 ∷ []) $ free1 ! $
+        move ! (25 ∷ 26 ∷ []) $ free1 ! $ move ! (23 ∷ 24 ∷ []) $ free1 ! $ move ! (21 ∷ 22 ∷ []) $ free1 ! $ move ! (19 ∷ 20 ∷ []) $ free1 ! $
+        move ! (17 ∷ 18 ∷ []) $ free1 ! $ move ! (15 ∷ 16 ∷ []) $ free1 ! $ move ! (13 ∷ 14 ∷ []) $ free1 ! $ move ! (11 ∷ 12 ∷ []) $ free1 ! $
+        move ! (9 ∷ 10 ∷ []) $ free1 ! $ move ! (7 ∷ 8 ∷ []) $ free1 ! $ move ! (5 ∷ 6 ∷ []) $ free1 ! $ free0 ! $ keep ! (3 ∷ 1 ∷ 4 ∷ 0 ∷ 2 ∷ []) $
         by ! (exits (d .0) w _ (length-stored ys (d .1 .0) (d .1 .1) m) (build-entries ys zs zs long long ms us us us-long us-long (d .0) (d .1 .0) (d .1 .1) (e .0) (e .1) (e .2)))
 
     -- The entries are given up to `zip`.
     writes : (w : Val) (d : PathResult × (List ℕ × List ℕ)) (e : Said l₃ l₄ l₅ l₆ d) (is : Is S.the-row (d .0) (w ∷ [])) → Sq W (‵ (S.the-row .own (d .0) (w ∷ [])) ∷ ‵ (row u64 fullShare (d .1 .0) l₅ 0) ∷ ‵ (row u64 fullShare (d .1 .1) l₆ 0) ∷ ‵ (row u64 fullShare model-sizes l₃ 0) ∷ ‵ (row u64 fullShare model-losses l₄ 0) ∷ list ∷ ‵ (flft κ₁ q₁) ∷ ‵ (flft κ q) ∷ models ∷ ‵ (fat fullShare imm-slice l₃₄ 0 (sliceVal (l₆, 0) 4096)) ∷ ‵ (fdies imm-slice l₃₄) ∷ ‵ (fat fullShare imm-array l₃₃ 0 (vptr l₆ 0)) ∷ ‵ (fdies imm-array l₃₃) ∷ ‵ (fat fullShare imm-slice l₃₂ 0 (sliceVal (l₅, 0) 4096)) ∷ ‵ (fdies imm-slice l₃₂) ∷ ‵ (fat fullShare imm-array l₃₁ 0 (vptr l₅ 0)) ∷ ‵ (fdies imm-array l₃₁) ∷ ‵ (fat fullShare mut-entries l₃₀ 0 s₁) ∷ ‵ (fdies mut-entries l₃₀) ∷ ‵ (fat fullShare mut-entry l₂₉ 0 (vptr b₁ o₁)) ∷ ‵ (fdies mut-entry l₂₉) ∷ ‵ (froom tyUnit l₂₈ 0) ∷ ‵ (fdies tyUnit l₂₈) ∷ ‵ (fat fullShare mut-slice l₂₇ 0 (sliceVal (l₆, 0) 4096)) ∷ ‵ (fdies mut-slice l₂₇) ∷ ‵ (fat fullShare mut-array l₂₆ 0 (vptr l₆ 0)) ∷ ‵ (fdies mut-array l₂₆) ∷ ‵ (fat fullShare mut-slice l₂₅ 0 (sliceVal (l₅, 0) 4096)) ∷ ‵ (fdies mut-slice l₂₅) ∷ ‵ (fat fullShare mut-array l₂₄ 0 (vptr l₅ 0)) ∷ ‵ (fdies mut-array l₂₄) ∷ ‵ (fat fullShare imm-slice l₂₃ 0 (sliceVal (l₄, 0) 4097)) ∷ ‵ (fdies imm-slice l₂₃) ∷ ‵ (fat fullShare imm-array′ l₂₂ 0 (vptr l₄ 0)) ∷ ‵ (fdies imm-array′ l₂₂) ∷ ‵ (fat fullShare imm-slice l₂₁ 0 (sliceVal (l₃, 0) 4097)) ∷ ‵ (fdies imm-slice l₂₁) ∷ ‵ (fat fullShare imm-array′ l₂₀ 0 (vptr l₃ 0)) ∷ ‵ (fdies imm-array′ l₂₀) ∷ ‵ (fat fullShare mut-slice l₁₉ 0 (sliceVal (l₆, 0) 4096)) ∷ ‵ (fdies mut-slice l₁₉) ∷ ‵ (fat fullShare mut-array l₁₈ 0 (vptr l₆ 0)) ∷ ‵ (fdies mut-array l₁₈) ∷ ‵ (fat fullShare mut-slice l₁₇ 0 (sliceVal (l₅, 0) 4096)) ∷ ‵ (fdies mut-slice l₁₇) ∷ ‵ (fat fullShare mut-array l₁₆ 0 (vptr l₅ 0)) ∷ ‵ (fdies mut-array l₁₆) ∷ ‵ (fat fullShare imm-entries l₁₅ 0 s₁) ∷ ‵ (fdies imm-entries l₁₅) ∷ ‵ (fat fullShare imm-entry l₁₄ 0 (vptr b₁ o₁)) ∷ ‵ (fdies imm-entry l₁₄) ∷ ‵ (fat fullShare mut-slice l₁₃ 0 (sliceVal (l₄, 0) 4097)) ∷ ‵ (fdies mut-slice l₁₃) ∷ ‵ (fat fullShare mut-array′ l₁₂ 0 (vptr l₄ 0)) ∷ ‵ (fdies mut-array′ l₁₂) ∷ ‵ (fat fullShare mut-slice l₁₁ 0 (sliceVal (l₃, 0) 4097)) ∷ ‵ (fdies mut-slice l₁₁) ∷ ‵ (fat fullShare mut-array′ l₁₀ 0 (vptr l₃ 0)) ∷ ‵ (fdies mut-array′ l₁₀) ∷ ‵ (fat fullShare S′.mir l₉ 0 w) ∷ ‵ (fdies S′.mir l₉) ∷ ‵ (fat fullShare word l₈ 0 (vint w64 m)) ∷ ‵ (fdies word l₈) ∷ ‵ (fat fullShare word l₇ 0 (vint w64 c)) ∷ ‵ (fdies word l₇) ∷ ‵ (fdies array l₆) ∷ ‵ (fdies array l₅) ∷ ‵ (fdies array′ l₄) ∷ ‵ (fdies array′ l₃) ∷ ‵ (fat fullShare to-slice l₂ 0 s₁) ∷ ‵ (fdies to-slice l₂) ∷ ‵ (fat fullShare from-slice l₁ 0 s) ∷ ‵ (fdies from-slice l₁) ∷ ‵ (froom S′.mir l₀ 0) ∷ ‵ (fdies S′.mir l₀) ∷ []) (runs C Λ Ev pieces.t-32 (atRet Ev Post))
     writes w d e is =
         -- `zip`
-        move ! (1 ∷ 2 ∷ []) $
-        join ! $
-        move ! (5 ∷ 4 ∷ 0 ∷ []) $
+        move ! (1 ∷ 2 ∷ []) $ join ! $ move ! (5 ∷ 4 ∷ 0 ∷ []) $
         use3 W (later (some (λ (p : Loan × Loan). raw (Zip 𝓤 H A mem run .pre (to-zip 𝓤 H A W mem run κ₁ q₁ (x₁ γ₁) 4096 l₅ l₆ (d .1 .0) (d .1 .1) p)) ⊛ zip-kepts 𝓤 H A W mem run κ₁ q₁ (x₁ γ₁) 4096 l₅ l₆ (d .1 .0) (d .1 .1) p))) (lends-zip 𝓤 H A W mem run κ₁ q₁ (x₁ γ₁) 4096 l₅ l₆ (d .1 .0) (d .1 .1) (e .0) (e .1) room₀) $
-        await ! tt $
-        pick ! (λ p.
-        split ! $
+        await ! tt $ pick ! (λ p. split ! $
         calls-at ! fm (Zip 𝓤 H A mem run) known-zip (to-zip 𝓤 H A W mem run κ₁ q₁ (x₁ γ₁) 4096 l₅ l₆ (d .1 .0) (d .1 .1) p) (and-then ! (load ! (from ! (stop !)) (look ! 15 refl)) (and-then ! (load ! (from ! (stop !)) (look ! 11 refl)) (and-then ! (load ! (from ! (stop !)) (look ! 7 refl)) (no-more !)))) (λ w₁.
         use2 W (Zipped 𝓤 H A W mem run κ₁ q₁ (x₁ γ₁) 4096 l₅ l₆ (d .1 .0) (d .1 .1) (e .0) (e .1) room₀ w₁) (zip-home 𝓤 H A W mem run κ₁ q₁ (x₁ γ₁) 4096 l₅ l₆ (d .1 .0) (d .1 .1) (e .0) (e .1) room₀ p w₁) $
-        await ! tt $
-        learn ! (λ e₁.
-        split ! $
-        move ! (1 ∷ []) $
-        split ! $
-        move ! (1 ∷ []) $
-        split ! $
+        await ! tt $ learn ! (λ e₁. split ! $ move ! (1 ∷ []) $ split ! $ move ! (1 ∷ []) $ split ! $
         land ! (from ! (stop !)) (init ! 21 refl (subst (λ (z : Val). Holds (hasTy tyUnit z) × WT z) (sym e₁) (tt, tt))) $
         rewrite ! 21 (λ (z : Val). ‵ (fat fullShare tyUnit l₂₈ 0 z)) e₁ refl $
         returns-it w d e is)))
@@ -498,25 +397,12 @@ module _ {M : Type 1} (𝓤 : URA M) (H : Heap 𝓤) (A : Atoms 𝓤) (W : Given
     builds : Sq W (list ∷ ‵ (flft κ₁ q₁) ∷ ‵ (row u64 fullShare sizes l₅ 0) ∷ ‵ (row u64 fullShare losses l₆ 0) ∷ ‵ (flft κ q) ∷ ‵ (row u64 fullShare model-sizes l₃ 0) ∷ ‵ (row u64 fullShare model-losses l₄ 0) ∷ models ∷ ‵ (froom imm-slice l₃₄ 0) ∷ ‵ (fdies imm-slice l₃₄) ∷ ‵ (froom imm-array l₃₃ 0) ∷ ‵ (fdies imm-array l₃₃) ∷ ‵ (froom imm-slice l₃₂ 0) ∷ ‵ (fdies imm-slice l₃₂) ∷ ‵ (froom imm-array l₃₁ 0) ∷ ‵ (fdies imm-array l₃₁) ∷ ‵ (froom mut-entries l₃₀ 0) ∷ ‵ (fdies mut-entries l₃₀) ∷ ‵ (froom mut-entry l₂₉ 0) ∷ ‵ (fdies mut-entry l₂₉) ∷ ‵ (froom tyUnit l₂₈ 0) ∷ ‵ (fdies tyUnit l₂₈) ∷ ‵ (fat fullShare mut-slice l₂₇ 0 (sliceVal (l₆, 0) 4096)) ∷ ‵ (fdies mut-slice l₂₇) ∷ ‵ (fat fullShare mut-array l₂₆ 0 (vptr l₆ 0)) ∷ ‵ (fdies mut-array l₂₆) ∷ ‵ (fat fullShare mut-slice l₂₅ 0 (sliceVal (l₅, 0) 4096)) ∷ ‵ (fdies mut-slice l₂₅) ∷ ‵ (fat fullShare mut-array l₂₄ 0 (vptr l₅ 0)) ∷ ‵ (fdies mut-array l₂₄) ∷ ‵ (fat fullShare imm-slice l₂₃ 0 (sliceVal (l₄, 0) 4097)) ∷ ‵ (fdies imm-slice l₂₃) ∷ ‵ (fat fullShare imm-array′ l₂₂ 0 (vptr l₄ 0)) ∷ ‵ (fdies imm-array′ l₂₂) ∷ ‵ (fat fullShare imm-slice l₂₁ 0 (sliceVal (l₃, 0) 4097)) ∷ ‵ (fdies imm-slice l₂₁) ∷ ‵ (fat fullShare imm-array′ l₂₀ 0 (vptr l₃ 0)) ∷ ‵ (fdies imm-array′ l₂₀) ∷ ‵ (fat fullShare mut-slice l₁₉ 0 (sliceVal (l₆, 0) 4096)) ∷ ‵ (fdies mut-slice l₁₉) ∷ ‵ (fat fullShare mut-array l₁₈ 0 (vptr l₆ 0)) ∷ ‵ (fdies mut-array l₁₈) ∷ ‵ (fat fullShare mut-slice l₁₇ 0 (sliceVal (l₅, 0) 4096)) ∷ ‵ (fdies mut-slice l₁₇) ∷ ‵ (fat fullShare mut-array l₁₆ 0 (vptr l₅ 0)) ∷ ‵ (fdies mut-array l₁₆) ∷ ‵ (fat fullShare imm-entries l₁₅ 0 s₁) ∷ ‵ (fdies imm-entries l₁₅) ∷ ‵ (fat fullShare imm-entry l₁₄ 0 (vptr b₁ o₁)) ∷ ‵ (fdies imm-entry l₁₄) ∷ ‵ (fat fullShare mut-slice l₁₃ 0 (sliceVal (l₄, 0) 4097)) ∷ ‵ (fdies mut-slice l₁₃) ∷ ‵ (fat fullShare mut-array′ l₁₂ 0 (vptr l₄ 0)) ∷ ‵ (fdies mut-array′ l₁₂) ∷ ‵ (fat fullShare mut-slice l₁₁ 0 (sliceVal (l₃, 0) 4097)) ∷ ‵ (fdies mut-slice l₁₁) ∷ ‵ (fat fullShare mut-array′ l₁₀ 0 (vptr l₃ 0)) ∷ ‵ (fdies mut-array′ l₁₀) ∷ ‵ (froom S′.mir l₉ 0) ∷ ‵ (fdies S′.mir l₉) ∷ ‵ (fat fullShare word l₈ 0 (vint w64 m)) ∷ ‵ (fdies word l₈) ∷ ‵ (fat fullShare word l₇ 0 (vint w64 c)) ∷ ‵ (fdies word l₇) ∷ ‵ (fdies array l₆) ∷ ‵ (fdies array l₅) ∷ ‵ (fdies array′ l₄) ∷ ‵ (fdies array′ l₃) ∷ ‵ (fat fullShare to-slice l₂ 0 s₁) ∷ ‵ (fdies to-slice l₂) ∷ ‵ (fat fullShare from-slice l₁ 0 s) ∷ ‵ (fdies from-slice l₁) ∷ ‵ (froom S′.mir l₀ 0) ∷ ‵ (fdies S′.mir l₀) ∷ []) (runs C Λ Ev pieces.t-25 (atRet Ev Post))
     builds =
         -- `build_front`
-        move ! (2 ∷ 3 ∷ []) $
-        join ! $
-        move ! (4 ∷ 5 ∷ []) $
-        join ! $
+        move ! (2 ∷ 3 ∷ []) $ join ! $ move ! (4 ∷ 5 ∷ []) $ join ! $
         use2 W (later (some (λ (p : Loans). raw (BuildFront 𝓤 H A mem run .pre (to-build l₃ l₄ l₅ l₆ p)) ⊛ kepts l₃ l₄ l₅ l₆ p))) (lends-build l₃ l₄ l₅ l₆) $
-        await ! tt $
-        pick ! (λ p.
-        split ! $
+        await ! tt $ pick ! (λ p. split ! $
         calls-at ! fm (BuildFront 𝓤 H A mem run) known-build (to-build l₃ l₄ l₅ l₆ p) (and-then ! (load ! (from ! (stop !)) (look ! 32 refl)) (and-then ! (load ! (from ! (stop !)) (look ! 28 refl)) (and-then ! (load ! (from ! (stop !)) (look ! 60 refl)) (and-then ! (load ! (from ! (stop !)) (look ! 24 refl)) (and-then ! (load ! (from ! (stop !)) (look ! 20 refl)) (and-then ! (load ! (from ! (stop !)) (look ! 58 refl)) (no-more !))))))) (λ w.
         use2 W (Comes l₃ l₄ l₅ l₆ w) (build-home l₃ l₄ l₅ l₆ p w) $
-        await ! tt $
-        pick ! (λ d.
-        learn ! (λ e.
-        split3 ! $
-        move ! (1 ∷ []) $
-        split ! $
-        move ! (3 ∷ []) $
-        split ! $
-        move ! (4 ∷ []) $
+        await ! tt $ pick ! (λ d. learn ! (λ e. split3 ! $ move ! (1 ∷ []) $ split ! $ move ! (3 ∷ []) $ split ! $ move ! (4 ∷ []) $
         peeks ! S.the-row (Is S.the-row) (shows 𝓤 H A S.the-row) (d .0) (w ∷ []) (λ is.
         land ! (from ! (stop !)) (init ! 59 refl (LL.lawful S.the-type S′.the-laws 𝓤 H A W .typed (d .0) _ is .0)) $
         lends-last w d e is)))))
@@ -541,29 +427,19 @@ module _ {M : Type 1} (𝓤 : URA M) (H : Heap 𝓤) (A : Atoms 𝓤) (W : Given
         lft-new ! tt (λ ν.
         move ! (6 ∷ 4 ∷ []) $
         use2 W (later (some (λ (δ : GName). lent ν δ ⊛ ‵ (SharedAgain R κ₁ (ν ∷ []) q₁ γ₁ b₁ o₁ ys)))) (shares-again R κ₁ (ν ∷ []) q₁ γ₁ b₁ o₁ ys 𝓤 H A W (named 1) (named 0)) $
-        await ! tt $
-        pick ! (λ δ.
-        split ! $
+        await ! tt $ pick ! (λ δ. split ! $
         -- `unzip`, of the entries
-        move ! (8 ∷ 7 ∷ []) $
-        join ! $
-        move ! (3 ∷ 1 ∷ 0 ∷ []) $
+        move ! (8 ∷ 7 ∷ []) $ join ! $ move ! (3 ∷ 1 ∷ 0 ∷ []) $
         use3 W (later (some (λ (p : Loan × Loan). raw (Unzip 𝓤 H A mem run .pre (entries-at ν δ p)) ⊛ entries-kept ν δ p))) (lends-unzip 𝓤 H A W mem run (ν ∷ []) fullShare (x₁ δ) 4096 l₅ l₆ zs zs long long room₀) $
-        await ! tt $
-        pick ! (λ p.
-        split ! $
+        await ! tt $ pick ! (λ p. split ! $
         calls-at ! fm (Unzip 𝓤 H A mem run) known-unzip (entries-at ν δ p) (and-then ! (load ! (from ! (stop !)) (look ! 45 refl)) (and-then ! (load ! (from ! (stop !)) (look ! 41 refl)) (and-then ! (load ! (from ! (stop !)) (look ! 37 refl)) (no-more !)))) (λ w.
         use2 W (Unzipped 𝓤 H A W mem run (ν ∷ []) fullShare (x₁ δ) 4096 l₅ l₆ zs zs long long room₀ w) (unzip-home 𝓤 H A W mem run (ν ∷ []) fullShare (x₁ δ) 4096 l₅ l₆ zs zs long long room₀ p w) $
-        await ! tt $
-        learn ! (λ e.
-        split3 ! $
+        await ! tt $ learn ! (λ e. split3 ! $
         land ! (from ! (stop !)) (init ! 60 refl (subst (λ (w : Val). Holds (hasTy word w) × WT w) (sym e) (tt, record { fits = m-fits }))) $
         rewrite ! 60 (λ (w : Val). ‵ (fat fullShare word l₈ 0 w)) e refl $
-        lft-end ! tt $
-        move ! (0 ∷ 3 ∷ []) $
+        lft-end ! tt $ move ! (0 ∷ 3 ∷ []) $
         use2 W (later (list ⊛ ‵ (flft κ₁ q₁))) (comes-home R κ₁ (ν ∷ []) q₁ γ₁ b₁ o₁ ys 𝓤 H A W (named 1) (named 0) room) $
-        await ! tt $
-        split ! $
+        await ! tt $ split ! $
         lends-third)))))
 
     -- The slices for that are made.
@@ -581,27 +457,14 @@ module _ {M : Type 1} (𝓤 : URA M) (H : Heap 𝓤) (A : Atoms 𝓤) (W : Given
     copies-models : Sq W (‵ (row u64 fullShare zs l₆ 0) ∷ ‵ (row u64 fullShare zs l₅ 0) ∷ ‵ (row u64 fullShare us l₄ 0) ∷ ‵ (row u64 fullShare us l₃ 0) ∷ ‵ (froom imm-slice l₃₄ 0) ∷ ‵ (fdies imm-slice l₃₄) ∷ ‵ (froom imm-array l₃₃ 0) ∷ ‵ (fdies imm-array l₃₃) ∷ ‵ (froom imm-slice l₃₂ 0) ∷ ‵ (fdies imm-slice l₃₂) ∷ ‵ (froom imm-array l₃₁ 0) ∷ ‵ (fdies imm-array l₃₁) ∷ ‵ (froom mut-entries l₃₀ 0) ∷ ‵ (fdies mut-entries l₃₀) ∷ ‵ (froom mut-entry l₂₉ 0) ∷ ‵ (fdies mut-entry l₂₉) ∷ ‵ (froom tyUnit l₂₈ 0) ∷ ‵ (fdies tyUnit l₂₈) ∷ ‵ (froom mut-slice l₂₇ 0) ∷ ‵ (fdies mut-slice l₂₇) ∷ ‵ (froom mut-array l₂₆ 0) ∷ ‵ (fdies mut-array l₂₆) ∷ ‵ (froom mut-slice l₂₅ 0) ∷ ‵ (fdies mut-slice l₂₅) ∷ ‵ (froom mut-array l₂₄ 0) ∷ ‵ (fdies mut-array l₂₄) ∷ ‵ (froom imm-slice l₂₃ 0) ∷ ‵ (fdies imm-slice l₂₃) ∷ ‵ (froom imm-array′ l₂₂ 0) ∷ ‵ (fdies imm-array′ l₂₂) ∷ ‵ (froom imm-slice l₂₁ 0) ∷ ‵ (fdies imm-slice l₂₁) ∷ ‵ (froom imm-array′ l₂₀ 0) ∷ ‵ (fdies imm-array′ l₂₀) ∷ ‵ (froom mut-slice l₁₉ 0) ∷ ‵ (fdies mut-slice l₁₉) ∷ ‵ (froom mut-array l₁₈ 0) ∷ ‵ (fdies mut-array l₁₈) ∷ ‵ (froom mut-slice l₁₇ 0) ∷ ‵ (fdies mut-slice l₁₇) ∷ ‵ (froom mut-array l₁₆ 0) ∷ ‵ (fdies mut-array l₁₆) ∷ ‵ (froom imm-entries l₁₅ 0) ∷ ‵ (fdies imm-entries l₁₅) ∷ ‵ (froom imm-entry l₁₄ 0) ∷ ‵ (fdies imm-entry l₁₄) ∷ ‵ (fat fullShare mut-slice l₁₃ 0 (sliceVal (l₄, 0) 4097)) ∷ ‵ (fdies mut-slice l₁₃) ∷ ‵ (fat fullShare mut-array′ l₁₂ 0 (vptr l₄ 0)) ∷ ‵ (fdies mut-array′ l₁₂) ∷ ‵ (fat fullShare mut-slice l₁₁ 0 (sliceVal (l₃, 0) 4097)) ∷ ‵ (fdies mut-slice l₁₁) ∷ ‵ (fat fullShare mut-array′ l₁₀ 0 (vptr l₃ 0)) ∷ ‵ (fdies mut-array′ l₁₀) ∷ ‵ (froom S′.mir l₉ 0) ∷ ‵ (fdies S′.mir l₉) ∷ ‵ (froom word l₈ 0) ∷ ‵ (fdies word l₈) ∷ ‵ (froom word l₇ 0) ∷ ‵ (fdies word l₇) ∷ ‵ (fdies array l₆) ∷ ‵ (fdies array l₅) ∷ ‵ (fdies array′ l₄) ∷ ‵ (fdies array′ l₃) ∷ ‵ (fat fullShare to-slice l₂ 0 s₁) ∷ ‵ (fdies to-slice l₂) ∷ ‵ (fat fullShare from-slice l₁ 0 s) ∷ ‵ (fdies from-slice l₁) ∷ ‵ (froom S′.mir l₀ 0) ∷ ‵ (fdies S′.mir l₀) ∷ (‵ (flft κ q) ⊛ ‵ (flft κ₁ q₁) ⊛ ‵ ftrue) ∷ ‵ (owns (ShrSlice (named 0) κ R ∷ MutSlice (named 1) κ₁ R ∷ []) a vals) ∷ []) (runs C Λ Ev pieces.t-9 (atRet Ev Post))
     copies-models =
         -- `unzip`, of the models
-        move ! (71 ∷ []) $
-        fsplit ! $
-        move ! (1 ∷ []) $
-        fsplit ! $
-        move ! (2 ∷ []) $
+        move ! (71 ∷ []) $ fsplit ! $ move ! (1 ∷ []) $ fsplit ! $ move ! (2 ∷ []) $
         use1 W (models ⊛ models) (shr-slice-copy 𝓤 H A W (named 0) κ R .twice x (s ∷ [])) $
-        split ! $
-        move ! (74 ∷ []) $
-        split3 ! $
-        move ! (10 ∷ 9 ∷ []) $
-        join ! $
-        move ! (1 ∷ 4 ∷ 0 ∷ []) $
+        split ! $ move ! (74 ∷ []) $ split3 ! $ move ! (10 ∷ 9 ∷ []) $ join ! $ move ! (1 ∷ 4 ∷ 0 ∷ []) $
         use3 W (later (some (λ (p : Loan × Loan). raw (Unzip 𝓤 H A mem run .pre (models-at p)) ⊛ models-kept p))) (lends-unzip 𝓤 H A W mem run κ q x 4097 l₃ l₄ us us us-long us-long room₁₀) $
-        await ! tt $
-        pick ! (λ p.
-        split ! $
+        await ! tt $ pick ! (λ p. split ! $
         calls-at ! fm (Unzip 𝓤 H A mem run) known-unzip (models-at p) (and-then ! (load ! (from ! (stop !)) (look ! 71 refl)) (and-then ! (load ! (from ! (stop !)) (look ! 55 refl)) (and-then ! (load ! (from ! (stop !)) (look ! 51 refl)) (no-more !)))) (λ w.
         use2 W (Unzipped 𝓤 H A W mem run κ q x 4097 l₃ l₄ us us us-long us-long room₁₀ w) (unzip-home 𝓤 H A W mem run κ q x 4097 l₃ l₄ us us us-long us-long room₁₀ p w) $
-        await ! tt $
-        learn ! (λ e.
-        split3 ! $
+        await ! tt $ learn ! (λ e. split3 ! $
         land ! (from ! (stop !)) (init ! 64 refl (subst (λ (w : Val). Holds (hasTy word w) × WT w) (sym e) (tt, record { fits = c-fits }))) $
         rewrite ! 64 (λ (w : Val). ‵ (fat fullShare word l₇ 0 w)) e refl $
         keep ! (0 ∷ 1 ∷ 2 ∷ 3 ∷ 5 ∷ 6 ∷ 8 ∷ 9 ∷ 10 ∷ 11 ∷ 12 ∷ 13 ∷ 14 ∷ 15 ∷ 16 ∷ 17 ∷ 18 ∷ 19 ∷ 20 ∷ 21 ∷ 22 ∷ 23 ∷ 24 ∷ 25 ∷ 26 ∷ 27 ∷ 28 ∷ 29 ∷ 30 ∷ 31 ∷ 32 ∷ 33 ∷ 34 ∷ 35 ∷ 36 ∷ 37 ∷ 38 ∷ 39 ∷ 40 ∷ 41 ∷ 42 ∷ 43 ∷ 44 ∷ 45 ∷ 46 ∷ 47 ∷ 48 ∷ 49 ∷ 50 ∷ 51 ∷ 52 ∷ 53 ∷ 54 ∷ 55 ∷ 56 ∷ 57 ∷ 58 ∷ 59 ∷ 60 ∷ 61 ∷ 62 ∷ 63 ∷ 64 ∷ 65 ∷ 66 ∷ 67 ∷ 68 ∷ 69 ∷ 70 ∷ 71 ∷ 72 ∷ 73 ∷ 74 ∷ 75 ∷ []) $

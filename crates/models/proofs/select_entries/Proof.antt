@@ -237,97 +237,38 @@ module _ {M : Type 1} (𝓤 : URA M) (H : Heap 𝓤) (A : Atoms 𝓤) (W : Given
         assigns ! (addr ! (from ! (stop !))) (from ! (stop !)) (init ! 6 refl (tt, tt)) $
         assigns ! (agg ! (and-then ! (load ! (from ! (stop !)) (look ! 6 refl)) (and-then ! (big-lit ! (record { fits = lit< tt })) (no-more !)))) (from ! (stop !)) (init ! 4 refl (tt, (tt, (record { fits = lit< tt }, tt)))) $
         -- `select_front`
-        move ! (1 ∷ 2 ∷ []) $
-        join ! $
+        move ! (1 ∷ 2 ∷ []) $ join ! $
         use1 W (later (some (λ (p : Loan × Loan). raw (SelectFront 𝓤 H A mem run .pre (to-select l₅ l₆ p)) ⊛ kepts l₅ l₆ p))) (lends-select l₅ l₆) $
-        await ! tt $
-        pick ! (λ p.
-        split ! $
+        await ! tt $ pick ! (λ p. split ! $
         calls-at ! fm (SelectFront 𝓤 H A mem run) known-select (to-select l₅ l₆ p) (and-then ! (load ! (from ! (stop !)) (look ! 8 refl)) (and-then ! (load ! (from ! (stop !)) (look ! 4 refl)) (and-then ! (load ! (from ! (stop !)) (look ! 20 refl)) (and-then ! (load ! (from ! (stop !)) (look ! 28 refl)) (and-then ! (load ! (from ! (stop !)) (look ! 26 refl)) (and-then ! (load ! (from ! (stop !)) (look ! 24 refl)) (no-more !))))))) (λ w.
         use2 W (Comes l₅ l₆ w) (select-home l₅ l₆ p w) $
-        await ! tt $
-        pick ! (λ d.
-        learn ! (λ e.
-        split3 ! $
+        await ! tt $ pick ! (λ d. learn ! (λ e. split3 ! $
         peeks ! S.the-row (Is S.the-row) (shows 𝓤 H A S.the-row) d (w ∷ []) (λ is.
         land ! (from ! (stop !)) (init ! 33 refl (LL.lawful S.the-type S′.the-laws 𝓤 H A W .typed d _ is .0)) $
-        returns ! (look ! 33 refl) $
-        forget ! 33 refl $
-        forget ! 31 refl $
-        forget ! 29 refl $
-        forget ! 27 refl $
-        forget ! 25 refl $
-        forget ! 21 refl $
-        forget ! 19 refl $
-        forget ! 17 refl $
-        forget ! 15 refl $
-        forget ! 13 refl $
-        forget ! 11 refl $
-        forget ! 9 refl $
-        forget ! 7 refl $
-        forget ! 5 refl $
-        move ! (1 ∷ []) $
+        returns ! (look ! 33 refl) $ forget ! 33 refl $ forget ! 31 refl $ forget ! 29 refl $ forget ! 27 refl $ forget ! 25 refl $ forget ! 21 refl $
+        forget ! 19 refl $ forget ! 17 refl $ forget ! 15 refl $ forget ! 13 refl $ forget ! 11 refl $ forget ! 9 refl $ forget ! 7 refl $
+        forget ! 5 refl $ move ! (1 ∷ []) $
         use1 W (‵ (froom array l₅ 0)) (row-room 𝓤 H A W 4096 l₅ sizes sizes-long) $
         move ! (2 ∷ []) $
         use1 W (‵ (froom array l₆ 0)) (row-room 𝓤 H A W 4096 l₆ losses losses-long) $
-        move ! (33 ∷ 34 ∷ []) $
-        free1 ! $
-        move ! (31 ∷ 32 ∷ []) $
-        free1 ! $
-        move ! (29 ∷ 30 ∷ []) $
-        free1 ! $
-        move ! (27 ∷ 28 ∷ []) $
-        free1 ! $
-        move ! (25 ∷ 26 ∷ []) $
-        free1 ! $
-        move ! (1 ∷ 24 ∷ []) $
-        free1 ! $
-        move ! (0 ∷ 22 ∷ []) $
-        free1 ! $
-        move ! (19 ∷ 20 ∷ []) $
-        free1 ! $
-        move ! (17 ∷ 18 ∷ []) $
-        free1 ! $
-        move ! (15 ∷ 16 ∷ []) $
-        free1 ! $
-        move ! (13 ∷ 14 ∷ []) $
-        free1 ! $
-        move ! (11 ∷ 12 ∷ []) $
-        free1 ! $
-        move ! (9 ∷ 10 ∷ []) $
-        free1 ! $
-        move ! (7 ∷ 8 ∷ []) $
-        free1 ! $
-        move ! (5 ∷ 6 ∷ []) $
-        free1 ! $
-        move ! (3 ∷ 4 ∷ []) $
-        free1 ! $
-        free0 ! $
-        keep ! (1 ∷ 2 ∷ 0 ∷ []) $
-        by ! (exits d w (e ∙ select-entries ys zs zs long long n u v)))))))
+        move ! (33 ∷ 34 ∷ []) $ free1 ! $ move ! (31 ∷ 32 ∷ []) $ free1 ! $ move ! (29 ∷ 30 ∷ []) $ free1 ! $ move ! (27 ∷ 28 ∷ []) $ free1 ! $
+        move ! (25 ∷ 26 ∷ []) $ free1 ! $ move ! (1 ∷ 24 ∷ []) $ free1 ! $ move ! (0 ∷ 22 ∷ []) $ free1 ! $ move ! (19 ∷ 20 ∷ []) $ free1 ! $
+        move ! (17 ∷ 18 ∷ []) $ free1 ! $ move ! (15 ∷ 16 ∷ []) $ free1 ! $ move ! (13 ∷ 14 ∷ []) $ free1 ! $ move ! (11 ∷ 12 ∷ []) $ free1 ! $
+        move ! (9 ∷ 10 ∷ []) $ free1 ! $ move ! (7 ∷ 8 ∷ []) $ free1 ! $ move ! (5 ∷ 6 ∷ []) $ free1 ! $ move ! (3 ∷ 4 ∷ []) $ free1 ! $ free0 ! $
+        keep ! (1 ∷ 2 ∷ 0 ∷ []) $ by ! (exits d w (e ∙ select-entries ys zs zs long long n u v)))))))
 
     -- The lists are lent to `unzip`.
     copies : Sq W (‵ (row u64 fullShare zs l₆ 0) ∷ ‵ (row u64 fullShare zs l₅ 0) ∷ ‵ (froom imm-slice l₁₅ 0) ∷ ‵ (fdies imm-slice l₁₅) ∷ ‵ (froom imm-array l₁₄ 0) ∷ ‵ (fdies imm-array l₁₄) ∷ ‵ (froom imm-slice l₁₃ 0) ∷ ‵ (fdies imm-slice l₁₃) ∷ ‵ (froom imm-array l₁₂ 0) ∷ ‵ (fdies imm-array l₁₂) ∷ ‵ (fat fullShare mut-slice l₁₁ 0 (sliceVal (l₆, 0) 4096)) ∷ ‵ (fdies mut-slice l₁₁) ∷ ‵ (fat fullShare mut-array l₁₀ 0 (vptr l₆ 0)) ∷ ‵ (fdies mut-array l₁₀) ∷ ‵ (fat fullShare mut-slice l₉ 0 (sliceVal (l₅, 0) 4096)) ∷ ‵ (fdies mut-slice l₉) ∷ ‵ (fat fullShare mut-array l₈ 0 (vptr l₅ 0)) ∷ ‵ (fdies mut-array l₈) ∷ ‵ (froom word l₇ 0) ∷ ‵ (fdies word l₇) ∷ ‵ (fdies array l₆) ∷ ‵ (fdies array l₅) ∷ ‵ (fat fullShare word l₄ 0 (vint w64 v)) ∷ ‵ (fdies word l₄) ∷ ‵ (fat fullShare word l₃ 0 (vint w64 u)) ∷ ‵ (fdies word l₃) ∷ ‵ (fat fullShare word l₂ 0 (vint w64 n)) ∷ ‵ (fdies word l₂) ∷ ‵ (fat fullShare from-slice l₁ 0 s) ∷ ‵ (fdies from-slice l₁) ∷ ‵ (froom S′.mir l₀ 0) ∷ ‵ (fdies S′.mir l₀) ∷ (‵ (flft κ q) ⊛ ‵ ftrue) ∷ ‵ (owns (ShrSlice (named 0) κ R ∷ usize ∷ u64 ∷ u64 ∷ []) a vals) ∷ []) (runs C Λ Ev pieces.t-7 (atRet Ev Post))
     copies =
         -- `unzip`
-        move ! (33 ∷ []) $
-        fsplit ! $
+        move ! (33 ∷ []) $ fsplit ! $
         use1 W (list ⊛ list) (shr-slice-copy 𝓤 H A W (named 0) κ R .twice x (s ∷ [])) $
-        split ! $
-        move ! (35 ∷ []) $
-        split ! $
-        move ! (6 ∷ 5 ∷ []) $
-        join ! $
-        move ! (1 ∷ 3 ∷ 0 ∷ []) $
+        split ! $ move ! (35 ∷ []) $ split ! $ move ! (6 ∷ 5 ∷ []) $ join ! $ move ! (1 ∷ 3 ∷ 0 ∷ []) $
         use3 W (later (some (λ (p : Loan × Loan). raw (Unzip 𝓤 H A mem run .pre (unzip-at p)) ⊛ unzip-kept p))) (lends-unzip 𝓤 H A W mem run κ q x 4096 l₅ l₆ zs zs long long room₀) $
-        await ! tt $
-        pick ! (λ p.
-        split ! $
+        await ! tt $ pick ! (λ p. split ! $
         calls-at ! fm (Unzip 𝓤 H A mem run) known-unzip (unzip-at p) (and-then ! (load ! (from ! (stop !)) (look ! 31 refl)) (and-then ! (load ! (from ! (stop !)) (look ! 17 refl)) (and-then ! (load ! (from ! (stop !)) (look ! 13 refl)) (no-more !)))) (λ w₀.
         use2 W (Unzipped 𝓤 H A W mem run κ q x 4096 l₅ l₆ zs zs long long room₀ w₀) (unzip-home 𝓤 H A W mem run κ q x 4096 l₅ l₆ zs zs long long room₀ p w₀) $
-        await ! tt $
-        learn ! (λ e.
-        split3 ! $
+        await ! tt $ learn ! (λ e. split3 ! $
         land ! (from ! (stop !)) (init ! 22 refl (subst (λ (w : Val). Holds (hasTy word w) × WT w) (sym e) (tt, record { fits = count-fits }))) $
         rewrite ! 22 (λ (w : Val). ‵ (fat fullShare word l₇ 0 w)) e refl $
         keep ! (0 ∷ 1 ∷ 2 ∷ 4 ∷ 6 ∷ 7 ∷ 8 ∷ 9 ∷ 10 ∷ 11 ∷ 12 ∷ 13 ∷ 14 ∷ 15 ∷ 16 ∷ 17 ∷ 18 ∷ 19 ∷ 20 ∷ 21 ∷ 22 ∷ 23 ∷ 24 ∷ 25 ∷ 26 ∷ 27 ∷ 28 ∷ 29 ∷ 30 ∷ 31 ∷ 32 ∷ 33 ∷ 34 ∷ 35 ∷ []) $

@@ -130,47 +130,20 @@ module _ {M : Type 1} (𝓤 : URA M) (H : Heap 𝓤) (A : Atoms 𝓤) (W : Given
       pass1 ! (init ! 6 refl (tt, (tt, (record { fits = models-room .0 }, tt)))) $ pass1 ! (init ! 4 refl (tt, (tt, (record { fits = room .0 }, tt)))) $ pass0 ! $
       assigns ! (addr ! (from ! (fld ! refl (hop ! (look-in ! 4 (sub ! 0 refl (whole !))) (stop !))))) (from ! (stop !)) (init ! 2 refl (tt, tt)) $
       assigns ! (agg ! (and-then ! (load ! (from ! (stop !)) (look ! 2 refl)) (and-then ! (load ! (from ! (fld ! refl (stop !))) (look-in ! 4 (sub ! 1 refl (whole !)))) (no-more !)))) (from ! (stop !)) (init ! 0 refl (tt, (tt, (record { fits = room .0 }, tt)))) $
-      move ! (11 ∷ []) $
-      fsplit ! $
+      move ! (11 ∷ []) $ fsplit ! $
       use1 W (list ⊛ list) (shr-slice-copy 𝓤 H A W (named 0) κ R .twice x (s ∷ [])) $
-      split ! $
-      move ! (0 ∷ 2 ∷ []) $
-      fjoin ! $
-      move ! (12 ∷ 0 ∷ []) $
+      split ! $ move ! (0 ∷ 2 ∷ []) $ fjoin ! $ move ! (12 ∷ 0 ∷ []) $
       use2 W (raw (Callee 𝓤 H A mem run .pre to-callee)) (goes) $
       calls-at ! fm (Callee 𝓤 H A mem run) known to-callee (and-then ! (load ! (from ! (stop !)) (look ! 8 refl)) (and-then ! (load ! (from ! (stop !)) (look ! 2 refl)) (no-more !))) (λ w.
       use1 W (later (some (λ (d : PathResult). (tokens ⊛ ‵ (S.the-row .own d (w ∷ []))) ⊛ raw (ensured 𝓤 H A callee.ended (callee.clauses 𝓤 H A mem run) κs a tt d)))) (id⊢ 𝓤 _) $
-      await ! tt $
-      pick ! (λ d.
-      split ! $
-      move ! (1 ∷ []) $
+      await ! tt $ pick ! (λ d. split ! $ move ! (1 ∷ []) $
       use1 W (Says d) (callee-says d) $
-      pick ! (λ es.
-      learn ! (λ e.
-      move ! (1 ∷ []) $
-      split ! $
-      move ! (1 ∷ []) $
+      pick ! (λ es. learn ! (λ e. move ! (1 ∷ []) $ split ! $ move ! (1 ∷ []) $
       peeks ! S.the-row (Is S.the-row) (shows 𝓤 H A S.the-row) d (w ∷ []) (λ is.
       land ! (from ! (stop !)) (init ! 12 refl (LL.lawful S.the-type S′.the-laws 𝓤 H A W .typed d _ is .0)) $
-      returns ! (look ! 12 refl) $
-      forget ! 12 refl $
-      forget ! 10 refl $
-      forget ! 8 refl $
-      forget ! 6 refl $
-      forget ! 4 refl $
-      move ! (12 ∷ 13 ∷ []) $
-      free1 ! $
-      move ! (10 ∷ 11 ∷ []) $
-      free1 ! $
-      move ! (8 ∷ 9 ∷ []) $
-      free1 ! $
-      move ! (6 ∷ 7 ∷ []) $
-      free1 ! $
-      move ! (4 ∷ 5 ∷ []) $
-      free1 ! $
-      free0 ! $
-      keep ! (1 ∷ 3 ∷ 2 ∷ 0 ∷ []) $
-      by ! (exits d w es (e .0) (e .1))))))))))))
+      returns ! (look ! 12 refl) $ forget ! 12 refl $ forget ! 10 refl $ forget ! 8 refl $ forget ! 6 refl $ forget ! 4 refl $ move ! (12 ∷ 13 ∷ []) $
+      free1 ! $ move ! (10 ∷ 11 ∷ []) $ free1 ! $ move ! (8 ∷ 9 ∷ []) $ free1 ! $ move ! (6 ∷ 7 ∷ []) $ free1 ! $ move ! (4 ∷ 5 ∷ []) $ free1 ! $
+      free0 ! $ keep ! (1 ∷ 3 ∷ 2 ∷ 0 ∷ []) $ by ! (exits d w es (e .0) (e .1))))))))))))
 
 module _ {M : Type 1} (𝓤 : URA M) (H : Heap 𝓤) (A : Atoms 𝓤) (W : Given 𝓤 H A) (mem : Memory → SProp 𝓤) (run : Routine → Fun 𝓤) (𝓣 : Tables 𝓤 H) (known : Triple 𝓤 (𝓣 .C #models·build-entries) (Callee 𝓤 H A mem run)) where
   walks : Walks 𝓤 H A call.ended stayed (WpFn 𝓤 H (𝓣 .C) (𝓣 .Λ) code.function) (call.clauses 𝓤 H A mem run)
