@@ -24,6 +24,7 @@
 //   14  a byte of an array is changed by a refused call
 #define _DEFAULT_SOURCE
 #include "../include/foldwig.h"
+#include "span.h"
 #include <pthread.h>
 #include <stdio.h>
 #include <stdlib.h>
@@ -34,7 +35,7 @@
 #define FAULT 0
 #endif
 
-enum { MOST = 4104, PAGES = 1 << 17, GUARD = 64, GUARD_BYTE = 0xa7, MOST_MISMATCHES = 10, SMALL_STACK = 256 * 1024 };
+enum { MOST = 4104, PAGES = 1 << 17, MOST_MISMATCHES = 10, SMALL_STACK = 256 * 1024 };
 
 static const uint64_t TOP = (uint64_t)1 << 44;
 
@@ -59,39 +60,12 @@ static struct {
     uint64_t at[2 * MOST];
 } held[ARRAYS];
 
-// Memory as it is lent: pages that can be written between two that can't be touched, where it stands in them, its bytes, and the
-// address that the call gets, which may be null if there are none. The arrays come first, then two byte strings for each of them.
-static struct span {
-    uint8_t *pages;
-    uint8_t *at;
-    void *given;
-    size_t len;
-} spans[3 * ARRAYS];
+// The arrays as they are lent, and then two byte strings for each of them.
+static struct span spans[3 * ARRAYS];
 
-static uint64_t state;
 static unsigned long calls[CALLS], mismatches;
 static unsigned long refusals[CALLS][FOLDWIG_REFUSALS];     // how often a call answered a number
 static unsigned long nulls[CALLS][ARRAYS];                  // how often an array was lent as null
-
-// ---- Random numbers
-
-static uint64_t random64(void)
-{
-    uint64_t z = state += UINT64_C(0x9e3779b97f4a7c15);
-    z = (z ^ z >> 30) * UINT64_C(0xbf58476d1ce4e5b9);
-    z = (z ^ z >> 27) * UINT64_C(0x94d049bb133111eb);
-    return z ^ z >> 31;
-}
-
-static uint64_t below(uint64_t bound)
-{
-    return random64() % bound;
-}
-
-static int one_in(uint64_t many)
-{
-    return below(many) == 0;
-}
 
 // ---- Mismatches
 
@@ -117,28 +91,8 @@ static void expect(int so, const char *what)
 
 static void map_spans(void)
 {
-    size_t edge = 1 << 14;
-    for (int i = 0; i < 3 * ARRAYS; i++) {
-        uint8_t *all = mmap(NULL, PAGES + 2 * edge, PROT_NONE, MAP_PRIVATE | MAP_ANONYMOUS, -1, 0);
-        if (all == MAP_FAILED || mprotect(all + edge, PAGES, PROT_READ | PROT_WRITE) != 0) {
-            perror("mapping the arrays");
-            exit(2);
-        }
-        spans[i].pages = all + edge;
-    }
-}
-
-// How many guard bytes stand before a span, and how many behind it.
-static size_t guard_before(const struct span *s)
-{
-    size_t free = (size_t)(s->at - s->pages);
-    return free < GUARD ? free : GUARD;
-}
-
-static size_t guard_behind(const struct span *s)
-{
-    size_t free = PAGES - (size_t)(s->at - s->pages) - s->len;
-    return free < GUARD ? free : GUARD;
+    for (int i = 0; i < 3 * ARRAYS; i++)
+        map_span(&spans[i], PAGES);
 }
 
 // Places so many bytes: flush against the page behind them, flush against the one before them, or between guards. Arrays are
@@ -146,22 +100,7 @@ static size_t guard_behind(const struct span *s)
 static void place(struct span *s, size_t len, size_t alignment)
 {
     uint64_t how = below(4);
-    s->len = len;
-    s->at = how == 0 ? s->pages + (PAGES - len) : how == 1 ? s->pages : s->pages + GUARD + alignment * below(16);
-    s->given = len == 0 && one_in(2) ? NULL : s->at;
-    memset(s->at - guard_before(s), GUARD_BYTE, guard_before(s));
-    memset(s->at + len, GUARD_BYTE, guard_behind(s));
-}
-
-static int guards_stand(const struct span *s)
-{
-    for (size_t i = 0; i < guard_before(s); i++)
-        if (s->at[-1 - (ptrdiff_t)i] != GUARD_BYTE)
-            return 0;
-    for (size_t i = 0; i < guard_behind(s); i++)
-        if (s->at[s->len + i] != GUARD_BYTE)
-            return 0;
-    return 1;
+    place_span(s, how == 0 ? PAGES - len : how == 1 ? 0 : GUARD + alignment * below(16), len);
 }
 
 static struct span *byte_string(int array, size_t column)
@@ -201,14 +140,6 @@ static uint64_t decode(int array, size_t column, size_t i)
 
 static int is_protected;
 
-static void protect(int protection)
-{
-    if (mprotect(spans[PATH].pages, PAGES, protection) != 0) {
-        perror("protecting the arrays");
-        exit(2);
-    }
-}
-
 // Lends all arrays of a call, and their byte strings. Now and then what a call only reads can't be written.
 static void lend(enum call call)
 {
@@ -223,7 +154,7 @@ static void lend(enum call call)
     }
     is_protected = call != APPEND && one_in(16);
     if (is_protected)
-        protect(PROT_READ);
+        protect_span(&spans[PATH], PROT_READ);
 }
 
 // An array as the library gets it, a pointer and the number of its elements, and a byte string.
@@ -317,7 +248,7 @@ static void check(enum call call, const struct answers *a, uint64_t rule, size_t
 {
     int refused = a->got[0] != 0;
     if (is_protected)
-        protect(PROT_READ | PROT_WRITE);
+        protect_span(&spans[PATH], PROT_READ | PROT_WRITE);
     plant_in_memory(refused);
     calls[call]++;
     if (memcmp(a->got, a->wanted, (size_t)a->fields * sizeof a->got[0]) != 0) {
@@ -607,25 +538,6 @@ static void fresh_breakpoints(size_t numerators, size_t denominators)
 static size_t some_length(void)
 {
     return one_in(300) ? 4095 + below(3) : below(one_in(2) ? 8 : 41);
-}
-
-// Room for n elements, mostly, and else for one or two fewer or more.
-static size_t about(size_t n)
-{
-    uint64_t r = below(12);
-    return r == 0 && n > 0 ? n - 1 : r == 1 && n > 1 ? n - 2 : r < 6 ? n : n + below(4);
-}
-
-// A number that is mostly small, and else somewhere near a limit or anywhere.
-static uint64_t some_number(uint64_t limit)
-{
-    switch (below(10)) {
-    case 0: return limit;
-    case 1: return limit + 1;
-    case 2: return limit - 1;
-    case 3: return one_in(8) ? random64() : below(limit);
-    default: return below(25);
-    }
 }
 
 // The number of entries that is said for n entries in an array of some length.
@@ -1111,7 +1023,7 @@ int main(int argc, char **argv)
     uint64_t seed = argc > 1 ? strtoull(argv[1], NULL, 10) : 20230417;
     setvbuf(stdout, NULL, _IOLBF, 0);
     printf("seed %llu\n", (unsigned long long)seed);
-    state = seed;
+    seed_random(seed);
     map_spans();
     random_builds(40000);
     random_paths(30000);

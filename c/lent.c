@@ -5,73 +5,36 @@
 #include <string.h>
 #include <sys/mman.h>
 
-enum { GUARD = 64, GUARD_BYTE = 0xa7, MOST_MISMATCHES = 10 };
+enum { MOST_MISMATCHES = 10 };
 
 // How many byte strings each call is lent, and how many of these, the first ones, it only reads.
 static const int lent_to[CALLS] = {2, 4, 2, 4, 4, 6};
 static const int only_read[CALLS] = {0, 2, 2, 2, 1, 1};
 
-// A buffer: pages that can be written between two that can't be touched, where its bytes stand in them, the address that the call
-// gets, which may be null if there are no bytes, and the copy.
+// A buffer, as the call gets it and as the reference does.
 struct lent {
-    uint8_t *pages;
-    uint8_t *at;
-    uint8_t *given;
-    size_t len;
+    struct span span;
     uint8_t copy[MOST_BYTES];
 };
 
 static struct lent lent[BUFFERS];
-static uint64_t state;
 static unsigned long calls[CALLS], mismatches;
 static unsigned long refusals[CALLS][FOLDWIG_REFUSALS];             // how often a call answered a number
 static unsigned long met[CALLS][FOLDWIG_REFUSALS][FOLDWIG_REFUSALS];    // how often two causes held at once
 static unsigned long nulls[CALLS][BUFFERS];                         // how often a byte string was lent as null
 static const char *const names[CALLS] = {"append", "build", "select", "breakpoints", "signal_path", "split"};
 
-// ---- Random numbers
-
-void seed_random(uint64_t seed)
-{
-    state = seed;
-}
-
-uint64_t random64(void)
-{
-    uint64_t z = state += UINT64_C(0x9e3779b97f4a7c15);
-    z = (z ^ z >> 30) * UINT64_C(0xbf58476d1ce4e5b9);
-    z = (z ^ z >> 27) * UINT64_C(0x94d049bb133111eb);
-    return z ^ z >> 31;
-}
-
-uint64_t below(uint64_t bound)
-{
-    return random64() % bound;
-}
-
-int one_in(uint64_t many)
-{
-    return below(many) == 0;
-}
-
 // ---- Buffers
 
 void map_buffers(void)
 {
-    size_t edge = 1 << 14;
-    for (int i = 0; i < BUFFERS; i++) {
-        uint8_t *all = mmap(NULL, MOST_BYTES + 2 * edge, PROT_NONE, MAP_PRIVATE | MAP_ANONYMOUS, -1, 0);
-        if (all == MAP_FAILED || mprotect(all + edge, MOST_BYTES, PROT_READ | PROT_WRITE) != 0) {
-            perror("mapping the buffers");
-            exit(2);
-        }
-        lent[i].pages = all + edge;
-    }
+    for (int i = 0; i < BUFFERS; i++)
+        map_span(&lent[i].span, MOST_BYTES);
 }
 
 struct bytes buffer(int i)
 {
-    struct bytes b = {lent[i].copy, lent[i].len};
+    struct bytes b = {lent[i].copy, lent[i].span.len};
     return b;
 }
 
@@ -81,7 +44,7 @@ struct bytes fresh(int i, size_t len)
         fprintf(stderr, "a buffer of %zu bytes is asked for\n", len);
         exit(2);
     }
-    lent[i].len = len;
+    lent[i].span.len = len;
     for (size_t j = 0; j < len; j += 8) {
         uint64_t r = random64();
         memcpy(lent[i].copy + j, &r, len - j < 8 ? len - j : 8);
@@ -89,39 +52,20 @@ struct bytes fresh(int i, size_t len)
     return buffer(i);
 }
 
-// How many guard bytes stand before a buffer, and how many behind it.
-static size_t guard_before(const struct lent *l)
-{
-    size_t free = (size_t)(l->at - l->pages);
-    return free < GUARD ? free : GUARD;
-}
-
-static size_t guard_behind(const struct lent *l)
-{
-    size_t free = MOST_BYTES - (size_t)(l->at - l->pages) - l->len;
-    return free < GUARD ? free : GUARD;
-}
-
 // Lends a buffer: flush against the page behind it, flush against the one before it, or somewhere between.
 static void lend(struct lent *l)
 {
-    size_t free = MOST_BYTES - l->len;
+    size_t free = MOST_BYTES - l->span.len;
     uint64_t place = below(4);
-    l->at = place < 2 ? l->pages + free : place == 2 ? l->pages : l->pages + below(free < 200 ? free + 1 : 200);
-    l->given = l->len == 0 && one_in(2) ? NULL : l->at;
-    memcpy(l->at, l->copy, l->len);
-    memset(l->at - guard_before(l), GUARD_BYTE, guard_before(l));
-    memset(l->at + l->len, GUARD_BYTE, guard_behind(l));
+    place_span(&l->span, place < 2 ? free : place == 2 ? 0 : below(free < 200 ? free + 1 : 200), l->span.len);
+    memcpy(l->span.at, l->copy, l->span.len);
 }
 
 // Lets the pages of what a call only reads be written, or not.
 static void protect(enum call call, int protection)
 {
     for (int i = 0; i < only_read[call]; i++)
-        if (mprotect(lent[i].pages, MOST_BYTES, protection) != 0) {
-            perror("protecting the buffers");
-            exit(2);
-        }
+        protect_span(&lent[i].span, protection);
 }
 
 static int is_protected;
@@ -131,7 +75,7 @@ static void lend_all(enum call call)
 {
     for (int i = 0; i < lent_to[call]; i++) {
         lend(&lent[i]);
-        nulls[call][i] += lent[i].given == NULL;
+        nulls[call][i] += lent[i].span.given == NULL;
     }
     is_protected = one_in(16);
     if (is_protected)
@@ -142,14 +86,6 @@ static void take_back(enum call call)
 {
     if (is_protected)
         protect(call, PROT_READ | PROT_WRITE);
-}
-
-static int guards_stand(const uint8_t *at, size_t count)
-{
-    for (size_t i = 0; i < count; i++)
-        if (at[i] != GUARD_BYTE)
-            return 0;
-    return 1;
 }
 
 // ---- Mismatches
@@ -172,18 +108,19 @@ void expect(int so, const char *what)
 
 static void check_buffer(enum call call, int i)
 {
-    const struct lent *l = &lent[i];
+    const struct span *s = &lent[i].span;
+    const uint8_t *copy = lent[i].copy;
     size_t j = 0;
-    if (!guards_stand(l->at - guard_before(l), guard_before(l)) || !guards_stand(l->at + l->len, guard_behind(l))) {
+    if (!guards_stand(s)) {
         printf("mismatch: %s wrote beside its byte string %d\n", names[call], i + 1);
         count_mismatch();
     }
-    if (memcmp(l->at, l->copy, l->len) == 0)
+    if (memcmp(s->at, copy, s->len) == 0)
         return;
-    while (l->at[j] == l->copy[j])
+    while (s->at[j] == copy[j])
         j++;
-    printf("mismatch: %s, byte %zu of byte string %d, of %zu bytes: %u, expected %u\n", names[call], j, i + 1, l->len, l->at[j],
-           l->copy[j]);
+    printf("mismatch: %s, byte %zu of byte string %d, of %zu bytes: %u, expected %u\n", names[call], j, i + 1, s->len, s->at[j],
+           copy[j]);
     count_mismatch();
 }
 
@@ -208,7 +145,7 @@ static void print_answers(enum call call, const struct answers *a)
     print_numbers("; given", a->given, a->numbers);
     printf(" and lengths");
     for (int i = 0; i < lent_to[call]; i++)
-        printf(" %zu", lent[i].len);
+        printf(" %zu", lent[i].span.len);
     printf("\n");
 }
 
@@ -232,7 +169,7 @@ static void check(enum call call, const struct answers *answers, unsigned causes
 
 // ---- The calls. LENT is a byte string as the library gets it, a pointer and a length.
 
-#define LENT(i) lent[i].given, lent[i].len
+#define LENT(i) lent[i].span.given, lent[i].span.len
 
 struct foldwig_path_result compare_append(uint64_t entries, uint64_t size, uint64_t loss)
 {

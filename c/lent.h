@@ -1,4 +1,4 @@
-// Buffers that are lent to a call and looked at afterwards, random numbers, and the comparison of each call with the reference.
+// Buffers that are lent to a call and looked at afterwards, and the comparison of each call with the reference.
 //
 // A test fills buffers 0, 1 and so on, in the order of the call's byte strings, and then compares the call. The library gets
 // each buffer between pages that can't be read or written, often flush against one of them, with guard bytes in what is left of
@@ -8,6 +8,7 @@
 #define LENT_H
 
 #include "reference.h"
+#include "span.h"
 
 enum { BUFFERS = 6, MOST_BYTES = 1 << 16 };
 
@@ -22,12 +23,6 @@ struct bytes fresh(int buffer, size_t len);
 
 // The buffer as it is, for instance as the latest call left it.
 struct bytes buffer(int buffer);
-
-// Random numbers: 64 bits; 0 to below - 1; 1 in so many.
-void seed_random(uint64_t seed);
-uint64_t random64(void);
-uint64_t below(uint64_t bound);
-int one_in(uint64_t many);
 
 // Each makes one call with the buffers and compares it.
 struct foldwig_path_result compare_append(uint64_t entries, uint64_t size, uint64_t loss);

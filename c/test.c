@@ -94,25 +94,6 @@ static void move_buffer(int from, int to)
     memcpy(fresh(to, b.len).at, b.at, b.len);
 }
 
-// Room for n items, mostly, and else for one or two fewer or more.
-static size_t about(size_t n)
-{
-    uint64_t r = below(12);
-    return r == 0 && n > 0 ? n - 1 : r == 1 && n > 1 ? n - 2 : r < 6 ? n : n + below(4);
-}
-
-// A number that is mostly small, and else somewhere near a limit or anywhere.
-static uint64_t some_number(uint64_t limit)
-{
-    switch (below(10)) {
-    case 0: return limit;
-    case 1: return limit + 1;
-    case 2: return limit - 1;
-    case 3: return one_in(8) ? random64() : below(limit);
-    default: return below(25);
-    }
-}
-
 // ---- Paths
 
 // Compares selections from the path in buffers 0 and 1, at random penalties and at those where two of its entries cost the same.
