@@ -1,173 +1,189 @@
--- The search for the last segment's start. A start before i costs at least as much as one segment more up to i and the loss from i on.
--- So the search to the right of a start at hand ends where that is not below the sum of this start, and the search down ends where it
--- exceeds the best.
-use mathlib.Core.Path.{_≡_, ap, subst}
+-- The search for the last segment's start. Gains are compared, and facts on losses used: a gain and its loss make up the sum of squares.
+-- A start before i loses at least as much as one segment more up to i and the segment from i on. So the search to the right of a start
+-- at hand ends where that is not below the loss of this start, and the search down ends where it exceeds the best. Starts past a limit
+-- are not looked at, since what stands before them alone loses as much as the start at hand.
+use mathlib.Core.Path.{_≡_, sym, _∙_, ap, subst}
 use mathlib.Core.Logic.{⊎-elim}
 use mathlib.Core.List.{List}
-use Prim.Native.Nat.{ℕ, _+_, _*_, _-_, _≤_, _<_}
+use Prim.Native.Nat.{ℕ, suc, _+_, _*_, _-_, _≤_, _<_}
 use native.Mathlib.Nat.{eq-or-lt-of-le}
 use native.Mathlib.Decide.{decLe}
 use native.Mathlib.Omega.{arith}
-use lib.IntN.{ℤ}
-use lib.ListN.{getD}
+use lib.IntN.{ℤ, pos}
+use lib.ListN.{length, getD}
 use lib.Seq.{slice}
 use Rattle.segment.specs.Segment.{maxSamples, segmentLoss}
-use Rattle.segment.specs.Inner.{maxSquare}
-use Rattle.least.specs.Segmentation.{lossWithLast, lastStart}
-use Rattle.least.specs.Inner.{rowOf, PickFrom, SeedFrom, Seeded, Picked}
+use Rattle.segment.specs.Inner.{maxSquare, raisedSquare, raisedSquares, squaresTo}
+use Rattle.segment.proofs.Bounds.{squaresTo-low}
+use Rattle.segment.proofs.Sums.{sumOf-next, sumOf-slice}
+use Rattle.least.specs.Segmentation.{lossWithLast, lastStart, least}
+use Rattle.least.specs.Inner.{GainOf, lossFrom, NoneBetter, LimitFrom, Limited, LimitAt, SearchFrom, StartAt, SeedFrom, Seeded, Picked}
 use Rattle.least.proofs.Earliest.{Earliest, earliest-one, earliest-alone, down-take, down-keep, down-all}
-use Rattle.least.proofs.LeastLosses.{slice-low, loss-split, lastStart-earliest}
+use Rattle.least.proofs.LeastLosses.{loss-split, lastStart-earliest}
+use Rattle.least.proofs.UpTo.{least-grows}
 
-module _ {xs : List ℤ} {sums squares recips old row : List ℕ} {low to : ℕ} (p : PickFrom xs sums squares recips old row low to) (i v : ℕ) (u : i < to) (e : v ≡ segmentLoss (slice i to xs)) where
-  -- No start before i has a smaller sum than one segment more up to i and the loss from there on.
-  past-all : (t : ℕ) → low ≤ t → t < i → getD row i 0 + v ≤ lossWithLast xs (rowOf old) to t
+module _ {xs : List ℤ} {old : List ℕ} {m to top bound from before right squares : ℕ} (p : LimitFrom xs old m to top bound from before) (l : Limited xs m to right squares) (more : right + 1 < to) {v : ℕ} (e : v ≡ raisedSquare (getD xs right (pos 0))) where
+  -- The sum of the squares before the next start.
+  next-squares : squares + v ≡ squaresTo xs (right + 1)
+  next-squares = omega (arith, l .squares-are, sumOf-next raisedSquare xs right (omega (arith, p .within)))
+
+  -- It is small.
+  pub next-low : squares + v ≤ maxSquare * maxSamples
+  next-low = omega (arith, next-squares, squaresTo-low xs (p .fit) (right + 1) (omega (arith, p .within)), p .within, p .short)
+
+  -- The limit moves up by one start.
+  pub limit-next : Limited xs m to (right + 1) (squares + v)
+  limit-next = record { above = omega (arith, l .above); below = more; squares-are = next-squares }
+
+  -- What stands before the next start loses as much as the start at hand, and so does more.
+  pub limit-stop : getD old (right + 1) 0 + top ≤ squares + v + bound → LimitAt xs m to bound right squares
   unfolding lossWithLast
-  past-all t l h = omega (arith, p .past t i l h u, loss-split xs t i to h u (p .within))
+  limit-stop h = record {
+    limited = l;
+    later = λ t a b. omega (
+      arith,
+      next-squares,
+      p .top-is,
+      p .old-is (right + 1) (omega (arith, l .above)) more,
+      least-grows xs m (right + 1) t (omega (arith, l .above)) (omega arith) (omega (arith, p .within)),
+    );
+  }
 
-  -- A loss before and a segment's own loss together are small.
-  pub sum-low : low ≤ i → getD old i 0 + v ≤ maxSquare * maxSamples
-  sum-low l = omega (arith, p .old-low i l u, slice-low xs (p .ready .summed .fit) i to u (p .within), p .ready .summed .room .short)
+-- The gains of the row before the last segment are small.
+pub old-low : {xs : List ℤ} {old : List ℕ} {m to top bound from before : ℕ} → LimitFrom xs old m to top bound from before → (i : ℕ) → m < i → i < to → getD old i 0 ≤ maxSquare * maxSamples
+old-low {xs} p i l u = omega (arith, p .old-is i l u, squaresTo-low xs (p .fit) i (omega (arith, p .within)), p .within, p .short)
 
-  -- Past low they are so in either row.
-  pub sums-low : low < i → (getD old i 0 + v ≤ maxSquare * maxSamples) × (getD row i 0 + v ≤ maxSquare * maxSamples)
+-- So is the sum of all squares.
+pub top-low : {xs : List ℤ} {old : List ℕ} {m to top bound from before : ℕ} → LimitFrom xs old m to top bound from before → top ≤ maxSquare * maxSamples
+top-low {xs} {to = to} p = omega (arith, p .top-is, squaresTo-low xs (p .fit) to (p .within), p .within, p .short)
+
+-- A limit at the last start.
+pub limit-end : {xs : List ℤ} {m to bound right squares : ℕ} → Limited xs m to right squares → to ≤ right + 1 → LimitAt xs m to bound right squares
+limit-end l h = record { limited = l; later = λ t a b. absurd (omega arith) }
+
+-- The gain of the last of m + 2 segments and of what stands before it, with their loss, is the sum of all squares.
+abbrev GainFrom : List ℤ → ℕ → ℕ → ℕ → ℕ → Type 0
+GainFrom xs m to i gain = gain + lossFrom xs m to i ≡ squaresTo xs to
+
+module _ {xs : List ℤ} {sums recips old row : List ℕ} {m to : ℕ} (p : SearchFrom xs sums recips old row m to) {i own : ℕ} (a : StartAt xs m to i own) where
+  -- The gain from a start.
+  pub sum-is : GainFrom xs m to i (getD old i 0 + own)
   unfolding lossWithLast
-  sums-low l =
-      let fit = p .ready .summed .fit in (
-        sum-low (omega arith),
+  sum-is = omega (arith, p .old-is i (a .above) (a .below), a .own-is, sumOf-slice raisedSquare i to xs (omega (arith, a .below)))
+
+  -- It is small.
+  pub sum-low : getD old i 0 + own ≤ maxSquare * maxSamples
+  sum-low = omega (arith, sum-is, squaresTo-low xs (p .ready .summed .fit) to (p .within), p .within, p .ready .summed .asked .short)
+
+  module _ (more : m + 1 < i) where
+    -- One segment more up to i, and the segment from i on.
+    row-sum : getD row i 0 + own + (least xs (suc m) i + segmentLoss (slice i to xs)) ≡ squaresTo xs to
+    row-sum = omega (arith, p .row-is i more (a .below), a .own-is, sumOf-slice raisedSquare i to xs (omega (arith, a .below)))
+
+    -- Its gain is small.
+    pub row-low : getD row i 0 + own ≤ maxSquare * maxSamples
+    row-low = omega (arith, row-sum, squaresTo-low xs (p .ready .summed .fit) to (p .within), p .within, p .ready .summed .asked .short)
+
+    -- No start before i gains more.
+    past-all : (t : ℕ) → m < t → t < i → squaresTo xs to ≤ getD row i 0 + own + lossFrom xs m to t
+    unfolding least lossWithLast
+    past-all t l h =
         omega (
           arith,
-          p .past low i (omega arith) l u,
-          p .old-low low (omega arith) (p .some),
-          slice-low xs fit low i l (omega (arith, p .within)),
-          slice-low xs fit i to u (p .within),
-          p .ready .summed .room .short,
-        ),
-      )
+          row-sum,
+          lastStart-earliest xs (least xs m) (suc m) i (omega arith) .minimal t (omega arith) h,
+          loss-split xs t i to h (a .below) (p .within),
+        )
 
--- To the right: of the starts from i on none is better than s.
-pub record Right (xs : List ℤ) (old : List ℕ) (s to bound i : ℕ) : Type 0 where
-  pub above : s < i
+-- To the right of s, whose gain is bound: of the starts from i on none is better.
+pub record Right (xs : List ℤ) (m to bound i : ℕ) : Type 0 where
   pub within : i ≤ to
-  pub is : bound ≡ lossWithLast xs (rowOf old) to s
-  pub later : (t : ℕ) → i ≤ t → t < to → bound ≤ lossWithLast xs (rowOf old) to t
+  pub later : NoneBetter xs m to bound i
 
-module _ {xs : List ℤ} {sums squares recips old row : List ℕ} {low s to own : ℕ} (p : SeedFrom xs sums squares recips old row low s to) (o : own ≡ segmentLoss (slice s to xs)) where
-  -- No start stands at the end.
-  pub right-start : Right xs old s to (getD old s 0 + own) to
-  unfolding lossWithLast
-  right-start = record { above = p .below; within = omega arith; is = ap (λ (v : ℕ). getD old s 0 + v) o; later = λ t a b. absurd (omega arith) }
+module _ {xs : List ℤ} {sums recips old row : List ℕ} {m to s own right : ℕ} (p : SeedFrom xs sums recips old row m to s own right) where
+  -- None is past the limit.
+  pub right-start : Right xs m to (getD old s 0 + own) (right + 1)
+  right-start = record { within = omega (arith, p .right-below); later = λ t a b. p .later t (omega arith) b }
 
-  -- Nothing is lost with s: no start is better.
-  pub none-lost : getD old s 0 + own ≡ 0 → Seeded xs old low to own s
-  none-lost z =
-      let r : Right xs old s to (getD old s 0 + own) to = right-start in
-      record { above = p .above; below = p .below; own-is = o; later = λ t a b. omega (arith, r .is) }
+  -- No start after s is better: it is the seed.
+  seed-is : ((t : ℕ) → s < t → t < to → squaresTo xs to ≤ getD old s 0 + own + lossFrom xs m to t) → Seeded xs m to own s
+  seed-is later = record { at = p .start; later = λ t a b. omega (arith, sum-is (p .search) (p .start), later t a b) }
 
-  module _ {bound i : ℕ} (r : Right xs old s to bound i) where
-    -- No start after s is better: it is the seed.
-    seed-is : ((t : ℕ) → s < t → t < to → bound ≤ lossWithLast xs (rowOf old) to t) → Seeded xs old low to own s
-    seed-is later = record { above = p .above; below = p .below; own-is = o; later = λ t a b. omega (arith, r .is, later t a b) }
-
+  module _ {i : ℕ} (r : Right xs m to (getD old s 0 + own) i) where
     -- All starts after s are done with.
-    pub right-end : i ≤ s + 1 → Seeded xs old low to own s
+    pub right-end : i ≤ s + 1 → Seeded xs m to own s
     right-end done = seed-is (λ t a b. r .later t (omega arith) b)
 
-    module _ {v : ℕ} (more : s + 1 < i) (e : v ≡ segmentLoss (slice (i - 1) to xs)) where
-      -- The loss from the next start, as a sum.
-      next-is : getD old (i - 1) 0 + v ≡ lossWithLast xs (rowOf old) to (i - 1)
-      unfolding lossWithLast
-      next-is = ap (λ (v : ℕ). getD old (i - 1) 0 + v) e
+    -- The next start.
+    pub right-next : {v : ℕ} → s + 1 < i → v + segmentLoss (slice (i - 1) to xs) ≡ raisedSquares (slice (i - 1) to xs) → StartAt xs m to (i - 1) v
+    right-next more e = record { above = omega (arith, p .start .above); below = omega (arith, r .within); own-is = e }
 
-      -- The next start is better than s, and no later one is: it is the seed.
-      pub right-take : getD old (i - 1) 0 + v < bound → Seeded xs old low to v (i - 1)
-      right-take better = record {
-        above = omega (arith, p .above);
-        below = omega (arith, r .within);
-        own-is = e;
-        later = λ t a b. omega (arith, next-is, r .later t (omega arith) b);
-      }
+    module _ {v : ℕ} (more : s + 1 < i) (next : StartAt xs m to (i - 1) v) where
+      -- It is better than s, and no later one is: it is the seed.
+      pub right-take : getD old s 0 + own < getD old (i - 1) 0 + v → Seeded xs m to v (i - 1)
+      right-take better = record { at = next; later = λ t a b. omega (arith, sum-is (p .search) next, r .later t (omega arith) b) }
 
       -- It is not better than s.
-      pub right-more : bound ≤ getD old (i - 1) 0 + v → Right xs old s to bound (i - 1)
+      pub right-more : getD old (i - 1) 0 + v ≤ getD old s 0 + own → Right xs m to (getD old s 0 + own) (i - 1)
       right-more worse = record {
-        above = omega arith;
         within = omega (arith, r .within);
-        is = r .is;
-        later = λ t a b. ⊎-elim (λ q. omega (arith, next-is, ap (lossWithLast xs (rowOf old) to) q)) (λ q. r .later t (omega arith) b) (eq-or-lt-of-le {n = i - 1} {m = t} a);
+        later = λ t a b. ⊎-elim (λ q. omega (arith, sum-is (p .search) next, ap (lossFrom xs m to) q)) (λ q. r .later t (omega arith) b) (eq-or-lt-of-le {n = i - 1} {m = t} a);
       }
 
       -- Nor is any start between s and it.
-      pub right-stop : bound ≤ getD old (i - 1) 0 + v → bound ≤ getD row (i - 1) 0 + v → Seeded xs old low to own s
+      pub right-stop : getD old (i - 1) 0 + v ≤ getD old s 0 + own → getD row (i - 1) 0 + v ≤ getD old s 0 + own → Seeded xs m to own s
       right-stop worse stop = seed-is (λ t a b. by-place t a b (decLe (i - 1) t))
         where
-          by-place : (t : ℕ) → s < t → t < to → Dec (i - 1 ≤ t) → bound ≤ lossWithLast xs (rowOf old) to t
+          by-place : (t : ℕ) → s < t → t < to → Dec (i - 1 ≤ t) → squaresTo xs to ≤ getD old s 0 + own + lossFrom xs m to t
           by-place t a b (yes q) = right-more worse .later t q b
-          by-place t a b (no q) = omega (arith, past-all (p .pick) (i - 1) v (omega (arith, r .within)) e t (omega (arith, p .above)) (omega arith))
+          by-place t a b (no q) = omega (arith, past-all (p .search) next (omega (arith, p .start .above)) t (omega (arith, p .start .above)) (omega arith))
 
--- Down: of the starts from i on, `start` is the earliest with the least loss, and `tail` is the loss of the last segment from i on.
-pub record Down (xs : List ℤ) (old : List ℕ) (low to i tail start loss : ℕ) : Type 0 where
-  pub above : low ≤ i
-  pub below : i < to
-  pub tail-is : tail ≡ segmentLoss (slice i to xs)
-  pub is : loss ≡ lossWithLast xs (rowOf old) to start
-  pub earliest : Earliest (lossWithLast xs (rowOf old) to) i to start
+-- Down: of the starts from i on, `start` is the earliest with the greatest gain, and `tail` is the gain of the last segment from i on.
+pub record Down (xs : List ℤ) (m to i tail start best : ℕ) : Type 0 where
+  pub at : StartAt xs m to i tail
+  pub is : GainFrom xs m to start best
+  pub earliest : Earliest (lossFrom xs m to) i to start
 
-module _ {xs : List ℤ} {old : List ℕ} {low to : ℕ} where
+module _ {xs : List ℤ} {sums recips old row : List ℕ} {m to : ℕ} (p : SearchFrom xs sums recips old row m to) where
   -- It begins at the seed.
-  pub down-start : {own from : ℕ} → Seeded xs old low to own from → Down xs old low to from own from (getD old from 0 + own)
-  unfolding lossWithLast
-  down-start {from = from} s = record {
-    above = s .above;
-    below = s .below;
-    tail-is = s .own-is;
-    is = ap (λ (v : ℕ). getD old from 0 + v) (s .own-is);
-    earliest = earliest-alone (lossWithLast xs (rowOf old) to) from to (s .below) (s .later);
-  }
+  pub down-start : {own from : ℕ} → Seeded xs m to own from → Down xs m to from own from (getD old from 0 + own)
+  down-start {from = from} s = record { at = s .at; is = sum-is p (s .at); earliest = earliest-alone (lossFrom xs m to) from to (s .at .below) (s .later) }
 
   -- What is found when all starts are done with.
-  picked : {start loss : ℕ} → low < to → loss ≡ lossWithLast xs (rowOf old) to start → Earliest (lossWithLast xs (rowOf old) to) low to start → Picked xs old low to loss start
-  picked {start} h e p = record { start-is = earliest-one (lossWithLast xs (rowOf old) to) low to start (lastStart xs (rowOf old) low to) p (lastStart-earliest xs (rowOf old) low to h); loss-is = e }
+  picked : {start best : ℕ} → GainFrom xs m to start best → Earliest (lossFrom xs m to) (suc m) to start → Picked xs m to best start
+  unfolding least
+  picked {start} {best} g e =
+      let same : start ≡ lastStart xs (least xs m) (suc m) to = earliest-one (lossFrom xs m to) (suc m) to start _ e (lastStart-earliest xs (least xs m) (suc m) to (omega (arith, p .some))) in
+      record { start-is = same; gain-is = ap (λ (i : ℕ). best + lossFrom xs m to i) (sym same) ∙ g }
 
-  module _ {i tail start loss : ℕ} (d : Down xs old low to i tail start loss) where
+  module _ {i tail start best : ℕ} (d : Down xs m to i tail start best) where
     -- The lowest start is reached.
-    pub down-end : i ≤ low → Picked xs old low to loss start
+    pub down-end : i ≤ m + 1 → Picked xs m to best start
     down-end h =
-        let k : i ≡ low = omega (arith, d .above) in
-        picked (omega (arith, d .below)) (d .is) (subst (λ (m : ℕ). Earliest (lossWithLast xs (rowOf old) to) m to start) k (d .earliest))
+        let k : i ≡ suc m = omega (arith, d .at .above) in
+        picked (d .is) (subst (λ (i : ℕ). Earliest (lossFrom xs m to) i to start) k (d .earliest))
 
-    -- No start before i can be as good.
-    pub down-stop : {sums squares recips row : List ℕ} → PickFrom xs sums squares recips old row low to → loss < getD row i 0 + tail → Picked xs old low to loss start
-    down-stop p h =
-        picked (p .some) (d .is)
-        (down-all (lossWithLast xs (rowOf old) to) low i to start (d .earliest) (d .above)
-        (λ t l u. omega (arith, past-all p i tail (d .below) (d .tail-is) t l u, d .is)))
+    -- The next start.
+    pub down-next : {v : ℕ} → m + 1 < i → v + segmentLoss (slice (i - 1) to xs) ≡ raisedSquares (slice (i - 1) to xs) → StartAt xs m to (i - 1) v
+    down-next more e = record { above = omega arith; below = omega (arith, d .at .below); own-is = e }
 
-    module _ {v : ℕ} (more : low < i) (e : v ≡ segmentLoss (slice (i - 1) to xs)) where
+    module _ (more : m + 1 < i) where
+      -- No start before i can be as good.
+      pub down-stop : getD row i 0 + tail < best → Picked xs m to best start
+      down-stop h =
+          picked (d .is)
+          (down-all (lossFrom xs m to) (suc m) i to start (d .earliest) (omega arith)
+          (λ t l u. omega (arith, past-all p (d .at) more t (omega arith) u, d .is)))
+
       -- What is found so far, as of the starts past the next one.
-      lower : Earliest (lossWithLast xs (rowOf old) to) (i - 1 + 1) to start
-      lower = let k : i ≡ i - 1 + 1 = omega arith in subst (λ (m : ℕ). Earliest (lossWithLast xs (rowOf old) to) m to start) k (d .earliest)
+      lower : Earliest (lossFrom xs m to) (i - 1 + 1) to start
+      lower = let k : i ≡ i - 1 + 1 = omega arith in subst (λ (i : ℕ). Earliest (lossFrom xs m to) i to start) k (d .earliest)
 
-      -- The loss from the next start, as a sum.
-      sum-is : getD old (i - 1) 0 + v ≡ lossWithLast xs (rowOf old) to (i - 1)
-      unfolding lossWithLast
-      sum-is = ap (λ (v : ℕ). getD old (i - 1) 0 + v) e
+      module _ {v : ℕ} (next : StartAt xs m to (i - 1) v) where
+        -- The next start is as good: it is taken.
+        pub scan-take : best ≤ getD old (i - 1) 0 + v → Down xs m to (i - 1) v (i - 1) (getD old (i - 1) 0 + v)
+        scan-take h = record { at = next; is = sum-is p next; earliest = down-take (lossFrom xs m to) (i - 1) to start lower (omega (arith, sum-is p next, d .is)) }
 
-      -- The next start is as good: it is taken.
-      pub scan-take : {sum : ℕ} → sum ≡ getD old (i - 1) 0 + v → sum ≤ loss → Down xs old low to (i - 1) v (i - 1) sum
-      scan-take made h = record {
-        above = omega arith;
-        below = omega (arith, d .below);
-        tail-is = e;
-        is = omega (arith, sum-is);
-        earliest = down-take (lossWithLast xs (rowOf old) to) (i - 1) to start lower (omega (arith, sum-is, d .is));
-      }
-
-      -- It is worse: the old start stays.
-      pub scan-keep : loss < getD old (i - 1) 0 + v → Down xs old low to (i - 1) v start loss
-      scan-keep h = record {
-        above = omega arith;
-        below = omega (arith, d .below);
-        tail-is = e;
-        is = d .is;
-        earliest = down-keep (lossWithLast xs (rowOf old) to) (i - 1) to start lower (omega (arith, sum-is, d .is));
-      }
+        -- It is worse: the old start stays.
+        pub scan-keep : getD old (i - 1) 0 + v < best → Down xs m to (i - 1) v start best
+        scan-keep h = record { at = next; is = d .is; earliest = down-keep (lossFrom xs m to) (i - 1) to start lower (omega (arith, sum-is p next, d .is)) }

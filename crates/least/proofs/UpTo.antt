@@ -1,15 +1,19 @@
 -- The least loss of exactly k + 1 segments is the least of at most k + 1, as equation (3) has it. A segmentation with fewer segments
--- than samples has a segment of two or more samples. Cut in two at the same level it gives one segment more and the same loss.
-use mathlib.Core.Path.{_≡_, refl, _∙_, ap, subst}
+-- than samples has a segment of two or more samples. Cut in two at the same level it gives one segment more and the same loss. So the
+-- least loss never rises with the number of segments, and never falls with the number of samples.
+use mathlib.Core.Path.{_≡_, refl, sym, _∙_, ap, subst}
+use mathlib.Core.Logic.{⊎-elim}
 use Prim.Native.Nat.{ℕ, zero, suc, _+_, _-_, _≤_, _<_}
+use native.Mathlib.Nat.{eq-or-lt-of-le, le-trans}
 use native.Mathlib.Omega.{arith}
 use mathlib.Core.List.{List, [], _∷_, _++_}
 use lib.IntN.{ℤ}
-use lib.ListN.{length, length-append}
-use lib.Seq.{append-snoc}
-use Rattle.segment.specs.Segment.{lossAt}
-use Rattle.least.specs.Segmentation.{Piece, covered, lossOf, NonEmpty, Segmentation, least, chosen}
+use lib.ListN.{length, take, drop, length-append, take-append-drop}
+use lib.Seq.{slice, append-snoc, length-take-le}
+use Rattle.segment.specs.Segment.{lossAt, segmentLoss}
+use Rattle.least.specs.Segmentation.{Piece, covered, lossOf, NonEmpty, Segmentation, lossWithLast, lastStart, least, chosen}
 use Rattle.least.specs.Claims.{LeastUpTo, LossesNeverRise}
+use Rattle.least.proofs.LeastLosses.{loss-split, lastStart-earliest, least-local}
 use Rattle.least.proofs.Optimality.{least-of-all, least-reached}
 
 -- One segment more over the same samples, with the same loss.
@@ -80,3 +84,31 @@ pub losses-never-rise : LossesNeverRise
 losses-never-rise xs k h =
     let c = least-reached xs k (omega arith) in
     omega (arith, least-up-to xs (suc k) (suc k) (chosen xs k (length xs)) h (omega arith) (c .0), c .1)
+
+-- Nor does it over the first j samples.
+front-never-rises : (xs : List ℤ) (k j : ℕ) → suc (suc k) ≤ j → j ≤ length xs → least xs (suc k) j ≤ least xs k j
+front-never-rises xs k j h u =
+    let ys = take j xs in
+    let n : length ys ≡ j = length-take-le j xs u in
+    let same : (m : ℕ) → m < j → least xs m j ≡ least ys m (length ys) =
+    λ m l. ap (λ (zs : List ℤ). least zs m j) (sym (take-append-drop j xs)) ∙ least-local ys (drop j xs) m j l (omega arith) ∙ ap (least ys m) (sym n) in
+    omega (arith, same k (omega arith), same (suc k) (omega arith), losses-never-rise ys k (omega arith))
+
+-- One sample more does not lower it: the last segment loses no less with that sample, and where it is that sample alone, one segment
+-- fewer had all the others.
+least-next : (xs : List ℤ) (k j : ℕ) → k < j → j < length xs → least xs k j ≤ least xs k (suc j)
+unfolding least lossWithLast
+least-next xs zero j h u = omega (arith, loss-split xs 0 j (suc j) h (omega arith) u)
+least-next xs (suc k) j h u =
+    let i = lastStart xs (least xs k) (suc k) (suc j) in
+    let e = lastStart-earliest xs (least xs k) (suc k) (suc j) (omega arith) in
+    ⊎-elim
+    (λ q. omega (arith, front-never-rises xs k j h (omega arith), ap (least xs k) q))
+    (λ q. omega (arith, loss-split xs i j (suc j) q (omega arith) u, lastStart-earliest xs (least xs k) (suc k) j h .minimal i (e .low) q))
+    (eq-or-lt-of-le {n = i} {m = j} (omega (arith, e .high)))
+
+-- Nor do several.
+pub least-grows : (xs : List ℤ) (k i j : ℕ) → k < i → i ≤ j → j ≤ length xs → least xs k i ≤ least xs k j
+least-grows xs k i zero h l u = absurd (omega arith)
+least-grows xs k i (suc j) h l u =
+    ⊎-elim (λ q. omega (arith, ap (least xs k) q)) (λ q. le-trans (least-grows xs k i j h (omega arith) (omega arith)) (least-next xs k j (omega arith) u)) (eq-or-lt-of-le {n = i} {m = suc j} l)

@@ -1,21 +1,25 @@
 // Least losses of a signal by dynamic programming: the least loss of each number of segments, a table of segment starts in scratch
-// bytes, and the segmentation that the table spells. Two rows of losses are kept, of one number of segments and of the one before.
+// bytes, and the segmentation that the table spells. A row has for each number of samples the gain of so many segments, which is what
+// their least loss falls short of the sum of squares. Two rows are kept, of one number of segments and of the one before.
 ghost use mathlib.Core.Path.{_≡_};
 ghost use mathlib.Core.List.{_++_};
-ghost use Prim.Native.Nat.{min};
+ghost use Prim.Native.Nat.{min, _<_};
 ghost use lib.ListN.{length, drop};
-ghost use Rattle.segment.specs.Inner.{cellCount, LossReady};
+ghost use Rattle.segment.specs.Inner.{GainReady};
 ghost use Rattle.least.specs.Segmentation.{startsOf, levelsOf, chosenOf};
-ghost use Rattle.least.specs.Inner.{SeedFrom, Seeded, DownFrom, Picked, CopyFrom, Copied, NextFrom, NextRow, RowIs, RowsFrom};
-ghost use Rattle.least.specs.Inner.{Table, TableFrom, TraceFrom, LevelsFrom, LevelsReady};
+ghost use Rattle.least.specs.Inner.{LimitFrom, LimitAt, SeedFrom, Seeded, DownFrom, Picked, PickFrom, Found};
+ghost use Rattle.least.specs.Inner.{CopyFrom, Copied, NextFrom, NextRow, RowIs, RowsFrom};
+ghost use Rattle.least.specs.Inner.{Table, TableFrom, shortCells, FillFrom, TraceFrom, LevelsFrom};
 use layout::get_u16;
 use layout::put_u16;
 use segment::CELLS;
 use segment::MAX_SAMPLES;
 use segment::prefix_sums;
+use segment::raised_square;
 use segment::reciprocals;
+use segment::segment_gain;
 use segment::segment_level;
-use segment::segment_loss;
+use segment::squares_to;
 
 // The most segments that a caller may ask for.
 pub const MAX_SEGMENTS: usize = 32;
@@ -24,151 +28,210 @@ pub const MAX_SEGMENTS: usize = 32;
 // each number of samples. A start there is the number of samples before the last segment.
 pub const SCRATCH_LEN: usize = 2 * (MAX_SAMPLES * (MAX_SEGMENTS - 1));
 
-// A last segment: the number of samples before it, and the loss of it and of what stands before it.
-struct LastSegment {
-    loss: u64,
-    start: usize,
+// The cells of the rows for a short signal. Clearing cells for 512 samples would take longer than the rest of its work.
+const SHORT_CELLS: usize = 65;
+
+// The last start that may be better than one at hand, and the sum of the squares of the raised samples before it.
+struct Limit {
+    right: usize,
+    squares: u64,
 }
 
-// A start to search down from, no later one being better: the number of samples before the last segment, and that segment's own loss.
+// A start to search down from, no later one being better: the number of samples before the last segment, and that segment's own gain.
 struct Seed {
     own: u64,
     start: usize,
 }
 
-// The seed for a search of a last segment that ends at to, from any start s at hand: s itself where no later start is better, else
-// the last of those that are. The losses of what stands before the segment are in old, those of one segment more in row. Where
-// row[i] and the loss from i on are not less than the sum of s, no start between s and i is better than s.
+// A last segment: the number of samples before it, and the gain of it and of what stands before it.
+struct LastSegment {
+    gain: u64,
+    start: usize,
+}
+
+// What a search finds: a last segment, and the limit that the next search may begin with.
+struct Pick {
+    gain: u64,
+    start: usize,
+    right: usize,
+    squares: u64,
+}
+
+// Moves a limit up, for a last segment that ends at to, as far as a start may be better than one whose gain is bound. What stands
+// before a start has its least loss in old, which never falls with the number of samples. So where that alone is not below the loss
+// of the start at hand, no start from there on is better. The squares of all samples before to have the sum top.
+fn right_limit(
+    samples: &[i16],
+    old: &[u64],
+    m: usize,
+    to: usize,
+    top: u64,
+    bound: u64,
+    from: usize,
+    before: u64,
+) -> Limit
+    requires { ⌜ LimitFrom (now samples) (now old) m to top bound from before ⌝ }
+    ensures { λ r. ⌜ LimitAt (now (samples .entry)) m to bound (r .right) (r .squares) ⌝ }
+{
+    let mut right = from;
+    let mut squares = before;
+    while right + 1 < to {
+        let next = squares + raised_square(samples[right]);
+        if old[right + 1] + top <= next + bound {
+            return Limit { right, squares };
+        }
+        right += 1;
+        squares = next;
+    }
+    Limit { right, squares }
+}
+
+// The seed for a search of a last segment that ends at to, from a start s at hand whose own gain is given and beyond which no start
+// past right is better: s itself where no later start is better, else the last of those that are. What stands before the segment has
+// its gains in old, one segment more in row. Where row[i] and the gain from i on do not exceed the sum of s, no start between s and i
+// is better than s.
 fn seed_from(
     samples: &[i16],
     sums: &[u32],
-    squares: &[u64],
     recips: &[u64],
     old: &[u64],
     row: &[u64],
-    low: usize,
-    s: usize,
+    m: usize,
     to: usize,
+    s: usize,
+    own: u64,
+    right: usize,
 ) -> Seed
-    requires { ⌜ SeedFrom (now samples) (now sums) (now squares) (now recips) (now old) (now row) low s to ⌝ }
-    ensures { λ r. ⌜ Seeded (now (samples .entry)) (now (old .entry)) low to (r .own) (r .start) ⌝ }
+    requires { ⌜ SeedFrom (now samples) (now sums) (now recips) (now old) (now row) m to s own right ⌝ }
+    ensures { λ r. ⌜ Seeded (now (samples .entry)) m to (r .own) (r .start) ⌝ }
 {
-    let seed = Seed {
-        own: segment_loss(samples, sums, squares, recips, s, to),
-        start: s,
-    };
-    let bound = old[s] + seed.own;
-    if bound == 0 {
-        return seed;
-    }
-    let mut i = to;
+    let bound = old[s] + own;
+    let mut i = right + 1;
     while s + 1 < i {
         i -= 1;
-        let own = segment_loss(samples, sums, squares, recips, i, to);
-        if old[i] + own < bound {
-            return Seed { own, start: i };
+        let tail = segment_gain(samples, sums, recips, i, to);
+        if bound < old[i] + tail {
+            return Seed {
+                own: tail,
+                start: i,
+            };
         }
-        if bound <= row[i] + own {
-            return seed;
+        if row[i] + tail <= bound {
+            return Seed { own, start: s };
         }
     }
-    seed
+    Seed { own, start: s }
 }
 
-// The earliest best start, not before low, from a seed down. Where row[i] and the loss from i on exceed the best so far, so do the
-// sums of all starts before i: a segment costs at least as much as its parts before and after i, and the part before i, with what
-// stands before it, at least row[i].
+// The earliest best start, with m segments or more before it, from a seed down. Where row[i] and the gain from i on stay below the best
+// so far, so do the sums of all starts before i: a segment gains at most as much as its parts before and after i, and the part before
+// i, with what stands before it, at most row[i].
 fn down_from(
     samples: &[i16],
     sums: &[u32],
-    squares: &[u64],
     recips: &[u64],
     old: &[u64],
     row: &[u64],
-    low: usize,
+    m: usize,
     to: usize,
     own: u64,
     from: usize,
 ) -> LastSegment
-    requires { ⌜ DownFrom (now samples) (now sums) (now squares) (now recips) (now old) (now row) low to own from ⌝ }
-    ensures { λ r. ⌜ Picked (now (samples .entry)) (now (old .entry)) low to (r .loss) (r .start) ⌝ }
+    requires { ⌜ DownFrom (now samples) (now sums) (now recips) (now old) (now row) m to own from ⌝ }
+    ensures { λ r. ⌜ Picked (now (samples .entry)) m to (r .gain) (r .start) ⌝ }
 {
     let mut i = from;
     let mut tail = own;
     let mut start = i;
-    let mut least = old[i] + tail;
-    while low < i {
-        if least < row[i] + tail {
-            return LastSegment { loss: least, start };
+    let mut best = old[i] + tail;
+    while m + 1 < i {
+        if row[i] + tail < best {
+            return LastSegment { gain: best, start };
         }
         i -= 1;
-        tail = segment_loss(samples, sums, squares, recips, i, to);
+        tail = segment_gain(samples, sums, recips, i, to);
         let sum = old[i] + tail;
-        if sum <= least {
-            least = sum;
+        if best <= sum {
+            best = sum;
             start = i;
         }
     }
-    LastSegment { loss: least, start }
+    LastSegment { gain: best, start }
 }
 
-// The earliest best start, not before low, of a last segment that ends at to. The search begins at any start s at hand.
+// The earliest best start of a last segment that ends at to. The search begins at any start s at hand, and with any limit.
 fn pick_start(
     samples: &[i16],
     sums: &[u32],
-    squares: &[u64],
     recips: &[u64],
     old: &[u64],
     row: &[u64],
-    low: usize,
-    s: usize,
+    m: usize,
     to: usize,
-) -> LastSegment
-    requires { ⌜ SeedFrom (now samples) (now sums) (now squares) (now recips) (now old) (now row) low s to ⌝ }
-    ensures { λ r. ⌜ Picked (now (samples .entry)) (now (old .entry)) low to (r .loss) (r .start) ⌝ }
+    top: u64,
+    s: usize,
+    right: usize,
+    squares: u64,
+) -> Pick
+    requires { ⌜ PickFrom (now samples) (now sums) (now recips) (now old) (now row) m to top s right squares ⌝ }
+    ensures { λ r. ⌜ Found (now (samples .entry)) m to (r .gain) (r .start) (r .right) (r .squares) ⌝ }
 {
-    let seed = seed_from(samples, sums, squares, recips, old, row, low, s, to);
-    down_from(
-        samples,
-        sums,
-        squares,
-        recips,
-        old,
-        row,
-        low,
-        to,
-        seed.own,
-        seed.start,
-    )
+    let own = segment_gain(samples, sums, recips, s, to);
+    let bound = old[s] + own;
+    let limit = right_limit(samples, old, m, to, top, bound, right, squares);
+    let seed = seed_from(samples, sums, recips, old, row, m, to, s, own, limit.right);
+    let last = down_from(samples, sums, recips, old, row, m, to, seed.own, seed.start);
+    Pick {
+        gain: last.gain,
+        start: last.start,
+        right: limit.right,
+        squares: limit.squares,
+    }
 }
 
-// The losses of m + 2 segments from those of m + 1, and row m of the table of starts. Each search begins at the start found for the end
-// before.
+// The gains of m + 2 segments from those of m + 1, and row m of the table of starts. Each search begins at the start found for the end
+// before, and with its limit.
 fn next_row(
     samples: &[i16],
     sums: &[u32],
-    squares: &[u64],
     recips: &[u64],
     old: &[u64],
     row: &mut [u64],
     scratch: &mut [u8],
     m: usize,
 )
-    requires { ⌜ NextFrom (now samples) (now sums) (now squares) (now recips) (now old) (now row) (now scratch) m ⌝ }
+    requires { ⌜ NextFrom (now samples) (now sums) (now recips) (now old) (now row) (now scratch) m ⌝ }
     ensures { λ r. ⌜
         NextRow (now (samples .entry)) m (now (row .exit)) (now (scratch .entry)) (now (scratch .exit))
         ⌝ }
 {
-    let low = m + 1;
     let base = MAX_SAMPLES * m;
-    let mut j = low;
-    let mut s = low;
+    let mut j = m + 1;
+    let mut top = squares_to(samples, j);
+    let mut s = j;
+    let mut right = j;
+    let mut squares = top;
     while j < samples.len() {
-        let last = pick_start(samples, sums, squares, recips, old, row, low, s, j + 1);
-        s = last.start;
+        top += raised_square(samples[j]);
+        let found = pick_start(
+            samples,
+            sums,
+            recips,
+            old,
+            row,
+            m,
+            j + 1,
+            top,
+            s,
+            right,
+            squares,
+        );
+        s = found.start;
+        right = found.right;
+        squares = found.squares;
         put_u16(scratch, 2 * (base + j), s as u16);
         j += 1;
-        row[j] = last.loss;
+        row[j] = found.gain;
     }
 }
 
@@ -184,16 +247,16 @@ fn copy_row(from: &[u64], to: &mut [u64], n: usize)
     }
 }
 
-// The losses of one segment over the first j samples, for each j.
-fn first_row(samples: &[i16], sums: &[u32], squares: &[u64], recips: &[u64], row: &mut [u64])
-    requires { ⌜ LossReady (now samples) (now sums) (now squares) (now recips) × (length (now row) ≡ cellCount) ⌝ }
+// The gains of one segment over the first j samples, for each j.
+fn first_row(samples: &[i16], sums: &[u32], recips: &[u64], row: &mut [u64])
+    requires { ⌜ GainReady (now samples) (now sums) (now recips) × (length (now samples) < length (now row)) ⌝ }
     ensures { λ r. ⌜ RowIs (now (samples .entry)) 0 (now (row .exit)) ⌝ }
 {
     let n = samples.len();
     let mut j = 0;
     while j < n {
         j += 1;
-        row[j] = segment_loss(samples, sums, squares, recips, 0, j);
+        row[j] = segment_gain(samples, sums, recips, 0, j);
     }
 }
 
@@ -201,7 +264,6 @@ fn first_row(samples: &[i16], sums: &[u32], squares: &[u64], recips: &[u64], row
 fn all_rows(
     samples: &[i16],
     sums: &[u32],
-    squares: &[u64],
     recips: &[u64],
     old: &mut [u64],
     row: &mut [u64],
@@ -210,18 +272,19 @@ fn all_rows(
     k: usize,
 )
     requires { ⌜
-        RowsFrom (now samples) (now sums) (now squares) (now recips) (now old) (now row) (now losses) (now scratch) k
+        RowsFrom (now samples) (now sums) (now recips) (now old) (now row) (now losses) (now scratch) k
         ⌝ }
     ensures { λ r. ⌜ Table (now (samples .entry)) k (now (losses .exit)) (now (scratch .exit)) ⌝ }
 {
     let n = samples.len();
-    losses[0] = row[n];
+    let squares = squares_to(samples, n);
+    losses[0] = squares - row[n];
     let mut m = 0;
     while m + 1 < k {
         copy_row(row, old, n);
-        next_row(samples, sums, squares, recips, old, row, scratch, m);
+        next_row(samples, sums, recips, old, row, scratch, m);
         m += 1;
-        losses[m] = row[n];
+        losses[m] = squares - row[n];
     }
 }
 
@@ -232,7 +295,84 @@ pub fn smaller(a: usize, b: usize) -> usize
     if a < b { a } else { b }
 }
 
-// The same from the samples alone, for as many segments as there may be and can be. Returns that number.
+// The same from the samples, for as many segments as there may be and can be, in cells that are lent. Returns that number.
+fn fill_rows(
+    samples: &[i16],
+    max_segments: usize,
+    sums: &mut [u32],
+    recips: &mut [u64],
+    old: &mut [u64],
+    row: &mut [u64],
+    losses: &mut [u64],
+    scratch: &mut [u8],
+) -> usize
+    requires { ⌜ FillFrom
+        (now samples) «max_segments»
+        (now sums) (now recips) (now old) (now row) (now losses) (now scratch) ⌝ }
+    ensures { λ r. ⌜
+        (r ≡ min «max_segments» (length (now (samples .entry))))
+        × Table (now (samples .entry)) r (now (losses .exit)) (now (scratch .exit))
+        ⌝ }
+{
+    prefix_sums(samples, sums);
+    reciprocals(samples.len(), recips);
+    first_row(samples, sums, recips, row);
+    let k = smaller(max_segments, samples.len());
+    all_rows(samples, sums, recips, old, row, losses, scratch, k);
+    k
+}
+
+// The same in cells for a short signal.
+fn fill_short(samples: &[i16], max_segments: usize, losses: &mut [u64], scratch: &mut [u8]) -> usize
+    requires { ⌜
+        TableFrom (now samples) «max_segments» (now losses) (now scratch) × (length (now samples) < shortCells)
+        ⌝ }
+    ensures { λ r. ⌜
+        (r ≡ min «max_segments» (length (now (samples .entry))))
+        × Table (now (samples .entry)) r (now (losses .exit)) (now (scratch .exit))
+        ⌝ }
+{
+    let mut sums = [0u32; SHORT_CELLS];
+    let mut recips = [0u64; SHORT_CELLS];
+    let mut old = [0u64; SHORT_CELLS];
+    let mut row = [0u64; SHORT_CELLS];
+    fill_rows(
+        samples,
+        max_segments,
+        &mut sums,
+        &mut recips,
+        &mut old,
+        &mut row,
+        losses,
+        scratch,
+    )
+}
+
+// The same in cells for any signal.
+fn fill_long(samples: &[i16], max_segments: usize, losses: &mut [u64], scratch: &mut [u8]) -> usize
+    requires { ⌜ TableFrom (now samples) «max_segments» (now losses) (now scratch) ⌝ }
+    ensures { λ r. ⌜
+        (r ≡ min «max_segments» (length (now (samples .entry))))
+        × Table (now (samples .entry)) r (now (losses .exit)) (now (scratch .exit))
+        ⌝ }
+{
+    let mut sums = [0u32; CELLS];
+    let mut recips = [0u64; CELLS];
+    let mut old = [0u64; CELLS];
+    let mut row = [0u64; CELLS];
+    fill_rows(
+        samples,
+        max_segments,
+        &mut sums,
+        &mut recips,
+        &mut old,
+        &mut row,
+        losses,
+        scratch,
+    )
+}
+
+// The table and the least losses of a signal, for as many segments as there may be and can be. Returns that number.
 pub fn fill_table(
     samples: &[i16],
     max_segments: usize,
@@ -245,27 +385,10 @@ pub fn fill_table(
         × Table (now (samples .entry)) r (now (losses .exit)) (now (scratch .exit))
         ⌝ }
 {
-    let mut sums = [0u32; CELLS];
-    let mut squares = [0u64; CELLS];
-    let mut recips = [0u64; CELLS];
-    let mut old = [0u64; CELLS];
-    let mut row = [0u64; CELLS];
-    prefix_sums(samples, &mut sums, &mut squares);
-    reciprocals(samples.len(), &mut recips);
-    first_row(samples, &sums, &squares, &recips, &mut row);
-    let k = smaller(max_segments, samples.len());
-    all_rows(
-        samples,
-        &sums,
-        &squares,
-        &recips,
-        &mut old,
-        &mut row,
-        losses,
-        scratch,
-        k,
-    );
-    k
+    if samples.len() < SHORT_CELLS {
+        return fill_short(samples, max_segments, losses, scratch);
+    }
+    fill_long(samples, max_segments, losses, scratch)
 }
 
 // Writes the starts of the chosen segmentation, counted from 1, from the table.
@@ -287,15 +410,8 @@ pub fn trace_back(samples: &[i16], scratch: &[u8], starts: &mut [u16], segments:
 }
 
 // Writes the levels of the chosen segmentation from its starts, from the last segment back.
-fn levels_back(
-    samples: &[i16],
-    sums: &[u32],
-    squares: &[u64],
-    starts: &[u16],
-    levels: &mut [i16],
-    segments: usize,
-)
-    requires { ⌜ LevelsReady (now samples) (now sums) (now squares) (now starts) (now levels) segments ⌝ }
+pub fn put_levels(samples: &[i16], starts: &[u16], levels: &mut [i16], segments: usize)
+    requires { ⌜ LevelsFrom (now samples) (now starts) (now levels) segments ⌝ }
     ensures { λ r. ⌜
         now (levels .exit) ≡ levelsOf (chosenOf (now (samples .entry)) segments) ++ drop segments (now (levels .entry))
         ⌝ }
@@ -305,21 +421,8 @@ fn levels_back(
     while 0 < left {
         left -= 1;
         let from = starts[left] as usize - 1;
-        let level = segment_level(samples, sums, squares, from, to);
+        let level = segment_level(samples, from, to);
         levels[left] = level;
         to = from;
     }
-}
-
-// Writes the levels of the chosen segmentation from its starts.
-pub fn put_levels(samples: &[i16], starts: &[u16], levels: &mut [i16], segments: usize)
-    requires { ⌜ LevelsFrom (now samples) (now starts) (now levels) segments ⌝ }
-    ensures { λ r. ⌜
-        now (levels .exit) ≡ levelsOf (chosenOf (now (samples .entry)) segments) ++ drop segments (now (levels .entry))
-        ⌝ }
-{
-    let mut sums = [0u32; CELLS];
-    let mut squares = [0u64; CELLS];
-    prefix_sums(samples, &mut sums, &mut squares);
-    levels_back(samples, &sums, &squares, starts, levels, segments);
 }

@@ -8,10 +8,10 @@ use native.Mathlib.Omega.{arith}
 use mathlib.Core.List.{List, [], _∷_}
 use lib.IntN.{ℤ, pos, negsuc, _+ℤ_, _-ℤ_}
 use lib.Signed.{mag}
-use lib.ListN.{length, getD}
-use lib.Seq.{slice, length-slice, getD-take, getD-drop}
+use lib.ListN.{length, take, getD}
+use lib.Seq.{slice, length-slice, length-take-le, getD-take, getD-drop}
 use Rattle.segment.specs.Segment.{Sample16, Samples16, level, square, total, lossAt, levelOf, segmentLoss}
-use Rattle.segment.specs.Inner.{offset, maxRaised, maxSquare, raised, raisedSquare, sumOf, raisedSum, raisedSquares}
+use Rattle.segment.specs.Inner.{offset, maxRaised, maxSquare, raised, raisedSquare, sumOf, raisedSum, raisedSquares, squaresTo}
 use Rattle.segment.proofs.Integers.{P, N, PN-add, PN-minus, PN-le, le-PN, not-negative, natAbs-PN, mag-PN}
 use Rattle.segment.proofs.Nearest.{level-near, near-unique}
 use Rattle.segment.proofs.Optimal.{level-least}
@@ -68,6 +68,12 @@ pub raisedSquares-low : (xs : List ℤ) → Samples16 xs → raisedSquares xs �
 raisedSquares-low xs small =
     sumOf-low raisedSquare maxSquare xs
     (λ i h. let l = raised-low (getD xs i (pos 0)) (small i h) in mul-le-mul l l)
+
+-- So is that over the first j samples.
+pub squaresTo-low : (xs : List ℤ) → Samples16 xs → (j : ℕ) → j ≤ length xs → squaresTo xs j ≤ maxSquare * j
+squaresTo-low xs small j h =
+    let e = length-take-le j xs h in
+    omega (arith, raisedSquares-low (take j xs) (λ i l. rw (getD-take j xs i (pos 0) (omega arith)) (small i (omega arith))))
 
 -- The square of u - v.
 square-difference : (z : ℤ) (u v : ℕ) → P z + v ≡ u + N z → square z + 2 * (v * u) ≡ u * u + v * v

@@ -1,13 +1,15 @@
-// One segment of a signal: its level, its loss, and the prefix sums and reciprocals from which they are had in constant time.
-// Contracts speak of the samples as whole numbers. Inside, a sample is raised by 32,768, so that sums are natural numbers.
+// One segment of a signal: its level, and its gain, which is what its loss falls short of the sum of squares. Prefix sums and
+// reciprocals give the gain in constant time. Contracts speak of the samples as whole numbers. Inside, a sample is raised by 32,768,
+// so that sums are natural numbers.
 ghost use mathlib.Core.Path.{_≡_};
-ghost use Prim.Native.Nat.{_*_, _≤_};
+ghost use Prim.Native.Nat.{_+_, _*_, _≤_};
 ghost use lib.IntN.{pos, natAbs};
 ghost use lib.Signed.{_≤ℤ_};
 ghost use lib.Seq.{slice};
 ghost use Rattle.segment.specs.Segment.{maxSamples, level, levelOf, segmentLoss};
-ghost use Rattle.segment.specs.Inner.{offset, maxRaised, raised, SumsFrom, Summed, SegmentIn};
-ghost use Rattle.segment.specs.Inner.{ReciprocalsFrom, Reciprocals, QuotientFrom, LossIn};
+ghost use Rattle.segment.specs.Inner.{offset, maxRaised, maxSquare, raised, raisedSquare, raisedSquares, squaresTo};
+ghost use Rattle.segment.specs.Inner.{FrontOf, SumsFrom, Summed, SegmentIn, SumOf};
+ghost use Rattle.segment.specs.Inner.{ReciprocalsFrom, Reciprocals, QuotientFrom, GainIn};
 
 // The most samples that a signal has.
 pub const MAX_SAMPLES: usize = 512;
@@ -45,34 +47,64 @@ pub fn raise(sample: i16) -> u32
     (sample as i32 + OFFSET) as u32
 }
 
-// For each j the sum of the first j raised samples, and the sum of their squares.
-pub fn prefix_sums(samples: &[i16], sums: &mut [u32], squares: &mut [u64])
-    requires { ⌜ SumsFrom (now samples) (now sums) (now squares) ⌝ }
-    ensures { λ r. ⌜ Summed (now (samples .entry)) (now (sums .exit)) (now (squares .exit)) ⌝ }
+// The square of a raised sample.
+pub fn raised_square(sample: i16) -> u64
+    ensures { λ r. ⌜ (r ≡ raisedSquare sample) × (r ≤ maxSquare) ⌝ }
+{
+    let v = raise(sample) as u64;
+    v * v
+}
+
+// The sum of the squares of the first count raised samples.
+pub fn squares_to(samples: &[i16], count: usize) -> u64
+    requires { ⌜ FrontOf (now samples) count ⌝ }
+    ensures { λ r. ⌜ r ≡ squaresTo (now (samples .entry)) count ⌝ }
+{
+    let mut i = 0;
+    let mut sum: u64 = 0;
+    while i < count {
+        sum += raised_square(samples[i]);
+        i += 1;
+    }
+    sum
+}
+
+// For each j the sum of the first j raised samples.
+pub fn prefix_sums(samples: &[i16], sums: &mut [u32])
+    requires { ⌜ SumsFrom (now samples) (now sums) ⌝ }
+    ensures { λ r. ⌜ Summed (now (samples .entry)) (now (sums .exit)) ⌝ }
 {
     let mut i = 0;
     let mut sum: u32 = 0;
-    let mut square: u64 = 0;
     sums[0] = 0;
-    squares[0] = 0;
     while i < samples.len() {
-        let v = raise(samples[i]);
-        let wide = v as u64;
-        sum += v;
-        square += wide * wide;
+        sum += raise(samples[i]);
         i += 1;
         sums[i] = sum;
-        squares[i] = square;
     }
 }
 
-// The level of the segment of samples from + 1 to to. The samples and the squares are lent for the contract alone.
-pub fn segment_level(samples: &[i16], sums: &[u32], squares: &[u64], from: usize, to: usize) -> i16
-    requires { ⌜ SegmentIn (now samples) (now sums) (now squares) from to ⌝ }
+// The sum of the raised samples from + 1 to to.
+fn raised_sum(samples: &[i16], from: usize, to: usize) -> u32
+    requires { ⌜ SegmentIn (now samples) from to ⌝ }
+    ensures { λ r. ⌜ SumOf (slice from to (now (samples .entry))) r ⌝ }
+{
+    let mut i = from;
+    let mut sum: u32 = 0;
+    while i < to {
+        sum += raise(samples[i]);
+        i += 1;
+    }
+    sum
+}
+
+// The level of the segment of samples from + 1 to to.
+pub fn segment_level(samples: &[i16], from: usize, to: usize) -> i16
+    requires { ⌜ SegmentIn (now samples) from to ⌝ }
     ensures { λ r. ⌜ r ≡ levelOf (slice from to (now (samples .entry))) ⌝ }
 {
     let n = (to - from) as i32;
-    let sum = (sums[to] - sums[from]) as i32;
+    let sum = raised_sum(samples, from, to) as i32;
     level(sum - OFFSET * n, n) as i16
 }
 
@@ -98,22 +130,16 @@ fn raised_level(recips: &[u64], sum: u32, n: usize) -> u64
     (2 * sum as u64 + n as u64 - 1) * recips[n] / RECIPROCAL_ONE
 }
 
-// The loss of the segment of samples from + 1 to to, at its level, which once raised is the level of the raised samples. The samples
-// are lent for the contract alone.
-pub fn segment_loss(
-    samples: &[i16],
-    sums: &[u32],
-    squares: &[u64],
-    recips: &[u64],
-    from: usize,
-    to: usize,
-) -> u64
-    requires { ⌜ LossIn (now samples) (now sums) (now squares) (now recips) from to ⌝ }
-    ensures { λ r. ⌜ r ≡ segmentLoss (slice from to (now (samples .entry))) ⌝ }
+// The gain of the segment of samples from + 1 to to. Its level, once raised, is the level of the raised samples. The samples are lent
+// for the contract alone.
+pub fn segment_gain(samples: &[i16], sums: &[u32], recips: &[u64], from: usize, to: usize) -> u64
+    requires { ⌜ GainIn (now samples) (now sums) (now recips) from to ⌝ }
+    ensures { λ r. ⌜
+        r + segmentLoss (slice from to (now (samples .entry))) ≡ raisedSquares (slice from to (now (samples .entry)))
+        ⌝ }
 {
     let n = to - from;
     let sum = sums[to] - sums[from];
     let v = raised_level(recips, sum, n);
-    let square = squares[to] - squares[from];
-    square + n as u64 * (v * v) - 2 * (v * sum as u64)
+    v * (2 * sum as u64 - n as u64 * v)
 }
