@@ -27,9 +27,24 @@ module _ {xs : List ℤ} {old : List ℕ} {m to top bound from before right squa
   next-squares : squares + v ≡ squaresTo xs (right + 1)
   next-squares = omega (arith, l .squares-are, sumOf-next raisedSquare xs right (omega (arith, p .within)))
 
-  -- It is small.
-  pub next-low : squares + v ≤ maxSquare * maxSamples
-  next-low = omega (arith, next-squares, squaresTo-low xs (p .fit) (right + 1) (omega (arith, p .within)), p .within, p .short)
+  -- All that is compared is small.
+  pub record Low : Type 0 where
+    pub next-low : squares + v ≤ maxSquare * maxSamples
+    pub old-low : getD old (right + 1) 0 ≤ maxSquare * maxSamples
+    pub top-low : top ≤ maxSquare * maxSamples
+    pub bound-low : bound ≤ maxSquare * maxSamples
+
+  pub terms-low : Low
+  terms-low =
+      let n = squaresTo-low xs (p .fit) (right + 1) (omega (arith, p .within)) in
+      let t = squaresTo-low xs (p .fit) to (p .within) in
+      let few = p .short in
+      record {
+        next-low = omega (arith, next-squares, p .within);
+        old-low = omega (arith, p .old-is (right + 1) (omega (arith, l .above)) more, p .within);
+        top-low = omega (arith, p .top-is, p .within);
+        bound-low = omega (arith, p .top-is, p .bound-low, p .within);
+      }
 
   -- The limit moves up by one start.
   pub limit-next : Limited xs m to (right + 1) (squares + v)
@@ -48,14 +63,6 @@ module _ {xs : List ℤ} {old : List ℕ} {m to top bound from before right squa
       least-grows xs m (right + 1) t (omega (arith, l .above)) (omega arith) (omega (arith, p .within)),
     );
   }
-
--- The gains of the row before the last segment are small.
-pub old-low : {xs : List ℤ} {old : List ℕ} {m to top bound from before : ℕ} → LimitFrom xs old m to top bound from before → (i : ℕ) → m < i → i < to → getD old i 0 ≤ maxSquare * maxSamples
-old-low {xs} p i l u = omega (arith, p .old-is i l u, squaresTo-low xs (p .fit) i (omega (arith, p .within)), p .within, p .short)
-
--- So is the sum of all squares.
-pub top-low : {xs : List ℤ} {old : List ℕ} {m to top bound from before : ℕ} → LimitFrom xs old m to top bound from before → top ≤ maxSquare * maxSamples
-top-low {xs} {to = to} p = omega (arith, p .top-is, squaresTo-low xs (p .fit) to (p .within), p .within, p .short)
 
 -- A limit at the last start.
 pub limit-end : {xs : List ℤ} {m to bound right squares : ℕ} → Limited xs m to right squares → to ≤ right + 1 → LimitAt xs m to bound right squares
@@ -80,9 +87,9 @@ module _ {xs : List ℤ} {sums recips old row : List ℕ} {m to : ℕ} (p : Sear
     row-sum : getD row i 0 + own + (least xs (suc m) i + segmentLoss (slice i to xs)) ≡ squaresTo xs to
     row-sum = omega (arith, p .row-is i more (a .below), a .own-is, sumOf-slice raisedSquare i to xs (omega (arith, a .below)))
 
-    -- Its gain is small.
-    pub row-low : getD row i 0 + own ≤ maxSquare * maxSamples
-    row-low = omega (arith, row-sum, squaresTo-low xs (p .ready .summed .fit) to (p .within), p .within, p .ready .summed .asked .short)
+    -- In either row the gain is small.
+    pub sums-low : (getD old i 0 + own ≤ maxSquare * maxSamples) × (getD row i 0 + own ≤ maxSquare * maxSamples)
+    sums-low = (sum-low, omega (arith, row-sum, squaresTo-low xs (p .ready .summed .fit) to (p .within), p .within, p .ready .summed .asked .short))
 
     -- No start before i gains more.
     past-all : (t : ℕ) → m < t → t < i → squaresTo xs to ≤ getD row i 0 + own + lossFrom xs m to t

@@ -1,17 +1,18 @@
 -- What is had of a segment from the sum of its raised samples: the sum of the samples, its level, and its gain. The sum itself is the
 -- difference of two prefix sums.
 use mathlib.Core.Path.{_≡_, refl, _∙_, ap}
-use Prim.Native.Nat.{ℕ, zero, suc, _+_, _*_, _-_, _≤_, _<_}
+use Prim.Native.Nat.{ℕ, zero, suc, _+_, _*_, _-_, _^_, _≤_, _<_}
+use native.Mathlib.Nat.{le-of-lt, mul-le-mul}
 use native.Mathlib.Omega.{arith}
 use mathlib.Core.List.{List}
 use lib.IntN.{ℤ, pos, natAbs, _-ℤ_}
 use lib.ListN.{length, getD}
 use lib.Seq.{slice, length-slice}
 use Rattle.segment.specs.Segment.{maxSamples, Sample16, Samples16, level, total, levelOf, segmentLoss}
-use Rattle.segment.specs.Inner.{offset, maxRaised, maxSquare, raised, raisedSum, raisedSquares, SegmentIn, GainIn}
+use Rattle.segment.specs.Inner.{offset, maxRaised, raised, raisedSum, raisedSquares, SegmentIn, GainIn}
 use Rattle.segment.proofs.Integers.{P, PN-minus, ext, natAbs-le-PN}
 use Rattle.segment.proofs.Nearest.{Near, level-near}
-use Rattle.segment.proofs.Bounds.{slice-small, raised-PN, total-PN, raisedSum-low, raisedSquares-low, loss-raised, level-small, raised-level}
+use Rattle.segment.proofs.Bounds.{slice-small, raised-PN, raised-low, total-PN, raisedSum-low, loss-raised, level-small, raised-level}
 use Rattle.segment.proofs.Sums.{sumOf-slice}
 
 -- The samples of a segment: at least one, not too many, and of 16 bits.
@@ -25,6 +26,10 @@ pub stretch : {samples : List ℤ} {from to : ℕ} → SegmentIn samples from to
 stretch {samples} {from} {to} s small =
     let e = length-slice from to samples (s .within) in
     record { some = omega (arith, s .some); short = omega (arith, s .short, s .within); small = small }
+
+-- A product with a raised level fits 64 bits where the other factor fits 32.
+pub product-fits : {a b : ℕ} → a ≤ maxRaised → b < 2 ^ 32 → a * b < 2 ^ 64
+product-fits ha hb = omega (arith, mul-le-mul ha (le-of-lt hb))
 
 -- The level of n raised samples is at most twice their mean.
 level-double : (s n v : ℕ) → Near (pos s) n (pos v) → n * v ≤ 2 * s
@@ -56,9 +61,9 @@ module _ {xs : List ℤ} (s : Stretch xs) where
 
   -- The gain, from the level v of the raised samples: what v takes of twice their sum, once for each sample, is left, v times.
   pub record Gained (v : ℕ) : Type 0 where
+    pub level-low : v ≤ maxRaised
     pub taken : length xs * v ≤ 2 * raisedSum xs
     pub gain-is : v * (2 * raisedSum xs - length xs * v) + segmentLoss xs ≡ raisedSquares xs
-    pub gain-low : v * (2 * raisedSum xs - length xs * v) ≤ maxSquare * maxSamples
 
   pub gained : (v : ℕ) → pos v ≡ level (pos (raisedSum xs)) (length xs) → Gained v
   unfolding segmentLoss
@@ -71,7 +76,7 @@ module _ {xs : List ℤ} (s : Stretch xs) where
       let whole : v * (left + n * v) ≡ v * (2 * raisedSum xs) = ap (λ (x : ℕ). v * x) (omega arith) in
       let loss = loss-raised (levelOf xs) v (rw is (raised-PN (levelOf xs) level-fits)) xs (s .small) in
       let gain : v * left + segmentLoss xs ≡ raisedSquares xs = omega arith in
-      record { taken = taken; gain-is = gain; gain-low = omega (arith, raisedSquares-low xs (s .small), s .short) }
+      record { level-low = omega (arith, raised-low (levelOf xs) level-fits); taken = taken; gain-is = gain }
 
 -- A segment and its prefix sums.
 pub record Between (samples : List ℤ) (sums : List ℕ) (from to : ℕ) : Type 0 where

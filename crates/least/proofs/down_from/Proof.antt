@@ -1,7 +1,7 @@
 -- `least::down_from` meets its contract. The invariant: of the starts from i on, `start` is the earliest with the greatest gain. Each turn
 -- takes or keeps, or ends the search where no start before i can be as good. The measure is i.
 use native.Mathlib.Omega.{arith}
-use Rattle.least.proofs.Search.{sum-low, row-low, Down, down-start, down-end, down-stop, down-next, scan-take, scan-keep}
+use Rattle.least.proofs.Search.{sum-low, sums-low, Down, down-start, down-end, down-stop, down-next, scan-take, scan-keep}
 use Rattle.least.proofs.down_from.Statement.{statement}
 use Rattle.least.proofs.down_from.Tie as tie
 
@@ -33,7 +33,7 @@ shared-slice-read-if1 : tie.Need-shared-slice-read-if1 Inv-loop μ-loop
 shared-slice-read-if1 c = omega arith
 
 add-if1 : tie.Need-add-if1 Inv-loop μ-loop
-add-if1 c = record { fits = omega (arith, row-low (c .before .before .before .before .before .before .before .before .pre .search) (c .before .before .loop .inv .at) (omega arith)) }
+add-if1 c = record { fits = omega (arith, sums-low (c .before .before .before .before .before .before .before .before .pre .search) (c .before .before .loop .inv .at) (omega arith)) }
 
 returns : tie.Need-returns Inv-loop μ-loop
 returns c = down-stop (c .before .before .before .before .before .before .before .before .before .pre .search) (c .before .before .before .loop .inv) (omega arith) (omega arith)

@@ -10,7 +10,7 @@ use mir.Syntax.{w16}
 use mir.Facts.{toZ-ofZ}
 use Rattle.segment.specs.Inner.{raisedSquare}
 use Rattle.least.specs.Inner.{Limited}
-use Rattle.least.proofs.Search.{next-low, old-low, top-low, limit-next, limit-stop, limit-end}
+use Rattle.least.proofs.Search.{terms-low, limit-next, limit-stop, limit-end}
 use Rattle.least.proofs.right_limit.Statement.{statement}
 use Rattle.least.proofs.right_limit.Tie as tie
 
@@ -42,7 +42,7 @@ raised-square-requires : tie.Need-raised-square-requires Inv-loop μ-loop
 raised-square-requires c κs = search needs
 
 add-next : tie.Need-add-next Inv-loop μ-loop
-add-next c = record { fits = omega (arith, next-low (c .before .before .before .before .before .pre) (c .before .before .before .loop .inv) (c .before .before .loop-test .taken) (square c)) }
+add-next c = record { fits = omega (arith, terms-low (c .before .before .before .before .before .pre) (c .before .before .before .loop .inv) (c .before .before .loop-test .taken) (square c)) }
 
 add-if1 : tie.Need-add-if1 Inv-loop μ-loop
 add-if1 c = omega arith
@@ -54,10 +54,10 @@ shared-slice-read-if1 : tie.Need-shared-slice-read-if1 Inv-loop μ-loop
 shared-slice-read-if1 c = omega arith
 
 add-if1-2 : tie.Need-add-if1-2 Inv-loop μ-loop
-add-if1-2 c = record { fits = omega (arith, old-low (c .before .before .before .before .before .before .pre) (c .before .before .before .before .loop .right + 1) (omega arith) (omega arith), top-low (c .before .before .before .before .before .before .pre)) }
+add-if1-2 c = record { fits = omega (arith, terms-low (c .before .before .before .before .before .before .pre) (c .before .before .before .before .loop .inv) (c .before .before .before .loop-test .taken) (square (c .before))) }
 
 add-if1-3 : tie.Need-add-if1-3 Inv-loop μ-loop
-add-if1-3 c = record { fits = omega (arith, next-low (c .before .before .before .before .before .before .pre) (c .before .before .before .before .loop .inv) (c .before .before .before .loop-test .taken) (square (c .before)), c .before .before .before .before .before .before .pre .bound-low, top-low (c .before .before .before .before .before .before .pre)) }
+add-if1-3 c = record { fits = omega (arith, terms-low (c .before .before .before .before .before .before .pre) (c .before .before .before .before .loop .inv) (c .before .before .before .loop-test .taken) (square (c .before))) }
 
 returns : tie.Need-returns Inv-loop μ-loop
 returns c = limit-stop (c .before .before .before .before .before .before .before .pre) (c .before .before .before .before .before .loop .inv) (c .before .before .before .before .loop-test .taken) (square (c .before .before)) (c .if1 .taken)

@@ -2,7 +2,7 @@
 use Prim.Native.Nat.{_+_, _-_}
 use native.Mathlib.Omega.{arith}
 use lib.ListN.{getD}
-use Rattle.least.proofs.Search.{sum-low, row-low, Right, right-start, right-end, right-next, right-take, right-more, right-stop}
+use Rattle.least.proofs.Search.{sum-low, sums-low, Right, right-start, right-end, right-next, right-take, right-more, right-stop}
 use Rattle.least.proofs.seed_from.Statement.{statement}
 use Rattle.least.proofs.seed_from.Tie as tie
 
@@ -45,7 +45,10 @@ shared-slice-read-if1 : tie.Need-shared-slice-read-if1 Inv-loop μ-loop
 shared-slice-read-if1 c = omega arith
 
 add-if1 : tie.Need-add-if1 Inv-loop μ-loop
-add-if1 c = record { fits = omega (arith, sum-low (c .before .before .before .before .before .before .before .before .before .pre .search) (right-next (c .before .before .before .before .before .before .before .before .before .pre) (c .before .before .before .loop .inv) (omega arith) (c .before .segment-gain .ensures))) }
+add-if1 c =
+    let p = c .before .before .before .before .before .before .before .before .before .pre in
+    let n = right-next p (c .before .before .before .loop .inv) (omega arith) (c .before .segment-gain .ensures) in
+    record { fits = omega (arith, sums-low (p .search) n (omega (arith, p .start .above))) }
 
 returns : tie.Need-returns Inv-loop μ-loop
 returns c =
@@ -63,7 +66,7 @@ add-if2 : tie.Need-add-if2 Inv-loop μ-loop
 add-if2 c =
     let p = c .before .before .before .before .before .before .before .before .before .before .before .pre in
     let n = right-next p (c .before .before .before .before .before .loop .inv) (omega arith) (c .before .before .before .segment-gain .ensures) in
-    record { fits = omega (arith, row-low (p .search) n (omega (arith, p .start .above))) }
+    record { fits = omega (arith, sums-low (p .search) n (omega (arith, p .start .above))) }
 
 returns-2 : tie.Need-returns-2 Inv-loop μ-loop
 returns-2 c =
