@@ -169,18 +169,6 @@ pub record TableFrom (xs : List ℤ) (k : ℕ) (losses scratch : List ℕ) : Typ
   pub len-losses : maxSegments ≤ length losses
   pub len-scratch : scratchLen ≤ length scratch
 
--- The cells of the rows for a short signal.
-abbrev pub shortCells : ℕ
-shortCells = 65
-
--- What the same call asks for where its cells are lent.
-pub record FillFrom (xs : List ℤ) (k : ℕ) (sums recips old row losses scratch : List ℕ) : Type 0 where
-  pub asked : TableFrom xs k losses scratch
-  pub room-sums : length xs < length sums
-  pub room-recips : length xs < length recips
-  pub room-old : length xs < length old
-  pub room-row : length xs < length row
-
 -- What the trace-back of k segments asks for: the table up to k segments, and room for k starts.
 pub record TraceFrom (xs : List ℤ) (scratch starts : List ℕ) (k : ℕ) : Type 0 where
   pub short : length xs ≤ maxSamples

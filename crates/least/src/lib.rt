@@ -9,7 +9,7 @@ ghost use Rattle.segment.specs.Inner.{GainReady};
 ghost use Rattle.least.specs.Segmentation.{startsOf, levelsOf, chosenOf};
 ghost use Rattle.least.specs.Inner.{LimitFrom, LimitAt, SeedFrom, Seeded, DownFrom, Picked, PickFrom, Found};
 ghost use Rattle.least.specs.Inner.{CopyFrom, Copied, NextFrom, NextRow, RowIs, RowsFrom};
-ghost use Rattle.least.specs.Inner.{Table, TableFrom, shortCells, FillFrom, TraceFrom, LevelsFrom};
+ghost use Rattle.least.specs.Inner.{Table, TableFrom, TraceFrom, LevelsFrom};
 use layout::get_u16;
 use layout::put_u16;
 use segment::CELLS;
@@ -27,9 +27,6 @@ pub const MAX_SEGMENTS: usize = 32;
 // The scratch bytes that the table of starts takes, 31,744: for each number of segments from 2 on a row of one start of two bytes for
 // each number of samples. A start there is the number of samples before the last segment.
 pub const SCRATCH_LEN: usize = 2 * (MAX_SAMPLES * (MAX_SEGMENTS - 1));
-
-// The cells of the rows for a short signal. Clearing cells for 512 samples would take longer than the rest of its work.
-const SHORT_CELLS: usize = 65;
 
 // The last start that may be better than one at hand, and the sum of the squares of the raised samples before it.
 struct Limit {
@@ -295,84 +292,7 @@ pub fn smaller(a: usize, b: usize) -> usize
     if a < b { a } else { b }
 }
 
-// The same from the samples, for as many segments as there may be and can be, in cells that are lent. Returns that number.
-fn fill_rows(
-    samples: &[i16],
-    max_segments: usize,
-    sums: &mut [u32],
-    recips: &mut [u64],
-    old: &mut [u64],
-    row: &mut [u64],
-    losses: &mut [u64],
-    scratch: &mut [u8],
-) -> usize
-    requires { ⌜ FillFrom
-        (now samples) «max_segments»
-        (now sums) (now recips) (now old) (now row) (now losses) (now scratch) ⌝ }
-    ensures { λ r. ⌜
-        (r ≡ min «max_segments» (length (now (samples .entry))))
-        × Table (now (samples .entry)) r (now (losses .exit)) (now (scratch .exit))
-        ⌝ }
-{
-    prefix_sums(samples, sums);
-    reciprocals(samples.len(), recips);
-    first_row(samples, sums, recips, row);
-    let k = smaller(max_segments, samples.len());
-    all_rows(samples, sums, recips, old, row, losses, scratch, k);
-    k
-}
-
-// The same in cells for a short signal.
-fn fill_short(samples: &[i16], max_segments: usize, losses: &mut [u64], scratch: &mut [u8]) -> usize
-    requires { ⌜
-        TableFrom (now samples) «max_segments» (now losses) (now scratch) × (length (now samples) < shortCells)
-        ⌝ }
-    ensures { λ r. ⌜
-        (r ≡ min «max_segments» (length (now (samples .entry))))
-        × Table (now (samples .entry)) r (now (losses .exit)) (now (scratch .exit))
-        ⌝ }
-{
-    let mut sums = [0u32; SHORT_CELLS];
-    let mut recips = [0u64; SHORT_CELLS];
-    let mut old = [0u64; SHORT_CELLS];
-    let mut row = [0u64; SHORT_CELLS];
-    fill_rows(
-        samples,
-        max_segments,
-        &mut sums,
-        &mut recips,
-        &mut old,
-        &mut row,
-        losses,
-        scratch,
-    )
-}
-
-// The same in cells for any signal.
-fn fill_long(samples: &[i16], max_segments: usize, losses: &mut [u64], scratch: &mut [u8]) -> usize
-    requires { ⌜ TableFrom (now samples) «max_segments» (now losses) (now scratch) ⌝ }
-    ensures { λ r. ⌜
-        (r ≡ min «max_segments» (length (now (samples .entry))))
-        × Table (now (samples .entry)) r (now (losses .exit)) (now (scratch .exit))
-        ⌝ }
-{
-    let mut sums = [0u32; CELLS];
-    let mut recips = [0u64; CELLS];
-    let mut old = [0u64; CELLS];
-    let mut row = [0u64; CELLS];
-    fill_rows(
-        samples,
-        max_segments,
-        &mut sums,
-        &mut recips,
-        &mut old,
-        &mut row,
-        losses,
-        scratch,
-    )
-}
-
-// The table and the least losses of a signal, for as many segments as there may be and can be. Returns that number.
+// The same from the samples alone, for as many segments as there may be and can be. Returns that number.
 pub fn fill_table(
     samples: &[i16],
     max_segments: usize,
@@ -385,10 +305,25 @@ pub fn fill_table(
         × Table (now (samples .entry)) r (now (losses .exit)) (now (scratch .exit))
         ⌝ }
 {
-    if samples.len() < SHORT_CELLS {
-        return fill_short(samples, max_segments, losses, scratch);
-    }
-    fill_long(samples, max_segments, losses, scratch)
+    let mut sums = [0u32; CELLS];
+    let mut recips = [0u64; CELLS];
+    let mut old = [0u64; CELLS];
+    let mut row = [0u64; CELLS];
+    prefix_sums(samples, &mut sums);
+    reciprocals(samples.len(), &mut recips);
+    first_row(samples, &sums, &recips, &mut row);
+    let k = smaller(max_segments, samples.len());
+    all_rows(
+        samples,
+        &sums,
+        &recips,
+        &mut old,
+        &mut row,
+        losses,
+        scratch,
+        k,
+    );
+    k
 }
 
 // Writes the starts of the chosen segmentation, counted from 1, from the table.
