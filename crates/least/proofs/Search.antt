@@ -10,14 +10,14 @@ use native.Mathlib.Nat.{eq-or-lt-of-le}
 use native.Mathlib.Decide.{decLe}
 use native.Mathlib.Omega.{arith}
 use lib.IntN.{ℤ, pos}
-use lib.ListN.{length, getD}
+use lib.ListN.{getD}
 use lib.Seq.{slice}
 use Rattle.segment.specs.Segment.{maxSamples, segmentLoss}
 use Rattle.segment.specs.Inner.{maxSquare, raisedSquare, raisedSquares, squaresTo}
 use Rattle.segment.proofs.Bounds.{squaresTo-low}
 use Rattle.segment.proofs.Sums.{sumOf-next, sumOf-slice}
 use Rattle.least.specs.Segmentation.{lossWithLast, lastStart, least}
-use Rattle.least.specs.Inner.{GainOf, lossFrom, NoneBetter, LimitFrom, Limited, LimitAt, SearchFrom, StartAt, SeedFrom, Seeded, Picked}
+use Rattle.least.specs.Inner.{lossFrom, NoneBetter, LimitFrom, Limited, LimitAt, SearchFrom, StartAt, SeedFrom, Seeded, Picked}
 use Rattle.least.proofs.Earliest.{Earliest, earliest-one, earliest-alone, down-take, down-keep, down-all}
 use Rattle.least.proofs.LeastLosses.{loss-split, lastStart-earliest}
 use Rattle.least.proofs.UpTo.{least-grows}

@@ -9,8 +9,8 @@ use native.Mathlib.Omega.{arith}
 use mathlib.Core.List.{List, [], _∷_, _++_}
 use lib.IntN.{ℤ}
 use lib.ListN.{length, take, drop, length-append, take-append-drop}
-use lib.Seq.{slice, append-snoc, length-take-le}
-use Rattle.segment.specs.Segment.{lossAt, segmentLoss}
+use lib.Seq.{append-snoc, length-take-le}
+use Rattle.segment.specs.Segment.{lossAt}
 use Rattle.least.specs.Segmentation.{Piece, covered, lossOf, NonEmpty, Segmentation, lossWithLast, lastStart, least, chosen}
 use Rattle.least.specs.Claims.{LeastUpTo, LossesNeverRise}
 use Rattle.least.proofs.LeastLosses.{loss-split, lastStart-earliest, least-local}

@@ -54,9 +54,9 @@ struct Pick {
     squares: u64,
 }
 
-// Moves a limit up, for a last segment that ends at to, as far as a start may be better than one whose gain is bound. What stands
-// before a start has its least loss in old, which never falls with the number of samples. So where that alone is not below the loss
-// of the start at hand, no start from there on is better. The squares of all samples before to have the sum top.
+// Moves a limit up, for the last of m + 2 segments, which ends at to, as far as a start may be better than one whose gain is bound. What
+// stands before a start has its gain in old, and a least loss that never falls with the number of samples. Where this loss alone is not
+// below that of the start at hand, no start from there on is better. The squares of the raised samples before to have the sum top.
 fn right_limit(
     samples: &[i16],
     old: &[u64],
@@ -83,10 +83,10 @@ fn right_limit(
     Limit { right, squares }
 }
 
-// The seed for a search of a last segment that ends at to, from a start s at hand whose own gain is given and beyond which no start
-// past right is better: s itself where no later start is better, else the last of those that are. What stands before the segment has
-// its gains in old, one segment more in row. Where row[i] and the gain from i on do not exceed the sum of s, no start between s and i
-// is better than s.
+// The seed for a search of a last segment that ends at to, from a start s at hand and its own gain, where no start past right is
+// better: s itself if no later start is better, else the last of those that are. The gains of what stands before the segment are in
+// old, those of one segment more in row. Where row[i] and the gain from i on do not exceed the sum of s, no start between s and i is
+// better than s.
 fn seed_from(
     samples: &[i16],
     sums: &[u32],
@@ -120,9 +120,9 @@ fn seed_from(
     Seed { own, start: s }
 }
 
-// The earliest best start, with m segments or more before it, from a seed down. Where row[i] and the gain from i on stay below the best
-// so far, so do the sums of all starts before i: a segment gains at most as much as its parts before and after i, and the part before
-// i, with what stands before it, at most row[i].
+// The earliest best start, not before m + 1, from a seed down. Where row[i] and the gain from i on stay below the best so far, so do the
+// sums of all starts before i: a segment gains at most as much as its parts before and after i, and the part before i, with what stands
+// before it, at most row[i].
 fn down_from(
     samples: &[i16],
     sums: &[u32],

@@ -21,7 +21,6 @@ use Rattle.segment.proofs.Cells.{cell-more}
 use Rattle.segment.proofs.Sums.{sumOf-next}
 use Rattle.least.specs.Segmentation.{lastStart, least}
 use Rattle.least.specs.Inner.{startPlace, GainOf, Limited, SearchFrom, PickFrom, Picked, Found, NextFrom, NextRow}
-use Rattle.least.proofs.Earliest.{Earliest}
 use Rattle.least.proofs.LeastLosses.{lastStart-earliest}
 use Rattle.least.proofs.next_row.Statement.{statement}
 use Rattle.least.proofs.next_row.Tie as tie

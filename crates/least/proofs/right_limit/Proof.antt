@@ -1,7 +1,7 @@
 -- `least::right_limit` meets its contract. The invariant: the limit lies within the bounds, and its squares are those before it. The
 -- measure is what is left up to the end.
 use mathlib.Core.Path.{_≡_, _∙_, ap}
-use Prim.Native.Nat.{_+_, _-_}
+use Prim.Native.Nat.{_-_}
 use native.Mathlib.Omega.{arith}
 use borrow.Author.Needs.{needs}
 use lib.IntN.{pos}
