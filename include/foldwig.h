@@ -222,7 +222,7 @@ struct foldwig_breakpoints_result foldwig_breakpoints_entries(const struct foldw
  * places stay. The scratch may hold anything before, and every byte of it is zero afterwards.
  * Refusals, in order: 11, 1, 2, 3, 9. The buffers need as many places as the smaller of max_segments and the number of samples,
  * and the scratch FOLDWIG_SCRATCH_LEN bytes.
- * Stack: 21,000 bytes.
+ * Stack: 17,000 bytes.
  */
 struct foldwig_signal_path_result foldwig_signal_path(const uint8_t *samples, size_t samples_len, uint64_t max_segments,
                                                       uint8_t *path_sizes, size_t path_sizes_len, uint8_t *path_losses,
@@ -235,7 +235,7 @@ struct foldwig_signal_path_result foldwig_signal_path(const uint8_t *samples, si
  * rest of both stays. The path of the signal and the scratch are as foldwig_signal_path leaves them.
  * Refusals, in order: 11, 1, 2, 3, 4, 9. All four buffers need as many places as the smaller of max_segments and the number of
  * samples, even if fewer segments come out, and the scratch FOLDWIG_SCRATCH_LEN bytes.
- * Stack: 24,000 bytes.
+ * Stack: 17,000 bytes.
  */
 struct foldwig_split_result foldwig_split(const uint8_t *samples, size_t samples_len, uint64_t max_segments, uint64_t p,
                                           uint64_t q, uint8_t *starts, size_t starts_len, uint8_t *levels, size_t levels_len,
