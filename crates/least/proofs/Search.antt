@@ -163,6 +163,10 @@ module _ {xs : List ℤ} {sums recips old row : List ℕ} {m to : ℕ} (p : Sear
       let same : start ≡ lastStart xs (least xs m) (suc m) to = earliest-one (lossFrom xs m to) (suc m) to start _ e (lastStart-earliest xs (least xs m) (suc m) to (omega (arith, p .some))) in
       record { start-is = same; gain-is = ap (λ (i : ℕ). best + lossFrom xs m to i) (sym same) ∙ g }
 
+  -- The lowest start, where nothing is lost with it.
+  pub none-lost : {s own : ℕ} → StartAt xs m to s own → s ≤ m + 1 → squaresTo xs to ≤ getD old s 0 + own → Picked xs m to (getD old s 0 + own) s
+  none-lost a lowest full = picked (sum-is p a) (record { low = a .above; high = a .below; minimal = λ t l u. omega (arith, sum-is p a); first = λ t l u. absurd (omega arith) })
+
   module _ {i tail start best : ℕ} (d : Down xs m to i tail start best) where
     -- The lowest start is reached.
     pub down-end : i ≤ m + 1 → Picked xs m to best start

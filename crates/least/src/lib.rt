@@ -156,7 +156,8 @@ fn down_from(
     LastSegment { gain: best, start }
 }
 
-// The earliest best start of a last segment that ends at to. The search begins at any start s at hand, and with any limit.
+// The earliest best start of a last segment that ends at to. The search begins at any start s at hand, and with any limit. Where s is
+// the lowest start and nothing is lost with it, there is nothing to search.
 fn pick_start(
     samples: &[i16],
     sums: &[u32],
@@ -175,6 +176,14 @@ fn pick_start(
 {
     let own = segment_gain(samples, sums, recips, s, to);
     let bound = old[s] + own;
+    if s == m + 1 && bound == top {
+        return Pick {
+            gain: bound,
+            start: s,
+            right,
+            squares,
+        };
+    }
     let limit = right_limit(samples, old, m, to, top, bound, right, squares);
     let seed = seed_from(samples, sums, recips, old, row, m, to, s, own, limit.right);
     let last = down_from(samples, sums, recips, old, row, m, to, seed.own, seed.start);

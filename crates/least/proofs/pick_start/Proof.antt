@@ -1,9 +1,15 @@
 -- `least::pick_start` meets its contract: each call has what it requires from those before it.
+use mathlib.Core.Path.{_≡_}
+use Prim.Native.Nat.{_+_}
 use native.Mathlib.Omega.{arith}
 use borrow.Author.Needs.{needs}
+use borrow.Author.Tests.{eqb-true}
+use lib.ListN.{getD}
 use Rattle.least.specs.Inner.{StartAt}
-use Rattle.least.proofs.Search.{sum-is, sum-low}
+use Rattle.least.proofs.Search.{sum-is, sum-low, none-lost}
 use borrow.Author.Needs.{needs}
+use borrow.Author.Tests.{eqb-true}
+use lib.ListN.{getD}
 use Rattle.least.proofs.pick_start.Statement.{statement}
 use Rattle.least.proofs.pick_start.Tie as tie
 
@@ -23,9 +29,19 @@ shared-slice-read-bound c = search needs
 add-bound : tie.Need-add-bound
 add-bound c = record { fits = omega (arith, sum-low (c .before .before .before .before .before .before .pre .search) (at-hand (c .before))) }
 
+add-if1 : tie.Need-add-if1
+add-if1 c = search needs
+
+returns : tie.Need-returns
+returns c =
+    let s = c .before .before .before .before .before .before .before .before in
+    let p = s .pre in
+    let full : getD (s .args .old .now) (s .args .s) 0 + c .before .before .before .segment-gain .result ≡ s .args .top = eqb-true _ _ (c .if2 .taken) in
+    record { picked = none-lost (p .search) (at-hand (c .before .before .before)) (omega arith) (omega (arith, p .top-is)); limited = p .limited }
+
 right-limit-requires : tie.Need-right-limit-requires
 right-limit-requires c κs =
-    let p = c .before .before .before .before .before .before .pre in
+    let p = c .before .before .before .before .before .before .before .pre in
     let r = p .search .ready .summed in
     record {
       fit = r .fit;
@@ -37,7 +53,7 @@ right-limit-requires c κs =
       old-is = p .search .old-is;
       top-is = p .top-is;
       before-is = p .limited .squares-are;
-      bound-low = omega (arith, p .top-is, sum-is (p .search) (at-hand (c .before)));
+      bound-low = omega (arith, p .top-is, sum-is (p .search) (at-hand (c .before .before)));
     }
 
 seed-from-requires : tie.Need-seed-from-requires
@@ -46,8 +62,8 @@ seed-from-requires c κs = search needs
 down-from-requires : tie.Need-down-from-requires
 down-from-requires c κs = search needs
 
-returns : tie.Need-returns
-returns c = search needs
+returns-2 : tie.Need-returns-2
+returns-2 c = search needs
 
 pub pick-start-spec : {M : Type 1} → statement M
 pick-start-spec =
@@ -57,7 +73,9 @@ pick-start-spec =
     mul-bound
     shared-slice-read-bound
     add-bound
+    add-if1
+    returns
     right-limit-requires
     seed-from-requires
     down-from-requires
-    returns)
+    returns-2)
