@@ -38,25 +38,22 @@ lossFrom xs m to i = lossWithLast xs (least xs m) to i
 abbrev pub NoneBetter : List ℤ → ℕ → ℕ → ℕ → ℕ → Type 0
 NoneBetter xs m to bound i = (t : ℕ) → i ≤ t → t < to → squaresTo xs to ≤ bound + lossFrom xs m to t
 
--- What a limit is moved up from: the row of the gains before the last segment, the sum of all squares, a start within the bounds, and
--- the sum of the squares before it.
-pub record LimitFrom (xs : List ℤ) (old : List ℕ) (m to top bound from before : ℕ) : Type 0 where
-  pub fit : Samples16 xs
-  pub short : length xs ≤ maxSamples
-  pub within : to ≤ length xs
-  pub above : m < from
-  pub below : from < to
-  pub room : to ≤ length old
-  pub old-is : (i : ℕ) → m < i → i < to → GainOf xs m i (getD old i 0)
-  pub top-is : top ≡ squaresTo xs to
-  pub before-is : before ≡ squaresTo xs from
-  pub bound-low : bound ≤ top
-
 -- A limit that lies within the bounds, with the sum of the squares before it.
 pub record Limited (xs : List ℤ) (m to right squares : ℕ) : Type 0 where
   pub above : m < right
   pub below : right < to
   pub squares-are : squares ≡ squaresTo xs right
+
+-- What a limit is moved up from: the row of the gains before the last segment, the sum of all squares, and such a limit.
+pub record LimitFrom (xs : List ℤ) (old : List ℕ) (m to top bound from before : ℕ) : Type 0 where
+  pub fit : Samples16 xs
+  pub short : length xs ≤ maxSamples
+  pub within : to ≤ length xs
+  pub room : to ≤ length old
+  pub old-is : (i : ℕ) → m < i → i < to → GainOf xs m i (getD old i 0)
+  pub top-is : top ≡ squaresTo xs to
+  pub bound-low : bound ≤ top
+  pub limited : Limited xs m to from before
 
 -- Where it is moved to: no start past it is better.
 pub record LimitAt (xs : List ℤ) (m to bound right squares : ℕ) : Type 0 where

@@ -47,12 +47,10 @@ right-limit-requires c κs =
       fit = r .fit;
       short = r .asked .short;
       within = p .search .within;
-      above = p .limited .above;
-      below = p .limited .below;
       room = p .search .room-old;
       old-is = p .search .old-is;
       top-is = p .top-is;
-      before-is = p .limited .squares-are;
+      limited = p .limited;
       bound-low = omega (arith, p .top-is, sum-is (p .search) (at-hand (c .before .before)));
     }
 

@@ -25,9 +25,7 @@ square : (c : tie.After-raised-square Inv-loop μ-loop) → c .raised-square .re
 square c = c .raised-square .ensures .0 ∙ ap raisedSquare (toZ-ofZ {w = w16} (record { sfits = c .before .raised-square-arg .given }))
 
 loop-holds : tie.Need-loop-holds Inv-loop μ-loop
-loop-holds c =
-    let p = c .before .pre in
-    record { above = p .above; below = p .below; squares-are = p .before-is }
+loop-holds c = c .before .pre .limited
 
 add-loop : tie.Need-add-loop Inv-loop μ-loop
 add-loop c = omega arith
