@@ -25,7 +25,6 @@
 #define _DEFAULT_SOURCE
 #include "../include/foldwig.h"
 #include "span.h"
-#include <pthread.h>
 #include <stdio.h>
 #include <stdlib.h>
 #include <string.h>
@@ -35,7 +34,7 @@
 #define FAULT 0
 #endif
 
-enum { MOST = 4104, PAGES = 1 << 17, MOST_MISMATCHES = 10, SMALL_STACK = 256 * 1024 };
+enum { MOST = 4104, PAGES = 1 << 17, MOST_MISMATCHES = 10 };
 
 static const uint64_t TOP = (uint64_t)1 << 44;
 
@@ -936,26 +935,6 @@ static void breakpoints_at_limit(void)
     put_models(4096, 4096);
     fresh_breakpoints(4096, 4096);
     expect(compare_breakpoints(4096).count == 4095, "4,095 breakpoints on a small stack");
-}
-
-static void *run_in_thread(void *function)
-{
-    (*(void (**)(void))function)();
-    return NULL;
-}
-
-// Runs a function in a thread of its own with a small stack.
-static void on_small_stack(void (*function)(void))
-{
-    pthread_attr_t attributes;
-    pthread_t thread;
-    if (pthread_attr_init(&attributes) != 0 || pthread_attr_setstacksize(&attributes, SMALL_STACK) != 0 ||
-        pthread_create(&thread, &attributes, run_in_thread, &function) != 0) {
-        fprintf(stderr, "no thread can be started\n");
-        exit(2);
-    }
-    pthread_join(thread, NULL);
-    pthread_attr_destroy(&attributes);
 }
 
 // ---- Lengths over 32 bits

@@ -1,5 +1,6 @@
 #define _DEFAULT_SOURCE
 #include "span.h"
+#include <pthread.h>
 #include <stdio.h>
 #include <stdlib.h>
 #include <string.h>
@@ -105,4 +106,23 @@ void protect_span(const struct span *s, int protection)
         perror("protecting the pages");
         exit(2);
     }
+}
+
+static void *run_in_thread(void *function)
+{
+    (*(void (**)(void))function)();
+    return NULL;
+}
+
+void on_small_stack(void (*function)(void))
+{
+    pthread_attr_t attributes;
+    pthread_t thread;
+    if (pthread_attr_init(&attributes) != 0 || pthread_attr_setstacksize(&attributes, SMALL_STACK) != 0 ||
+        pthread_create(&thread, &attributes, run_in_thread, &function) != 0) {
+        fprintf(stderr, "no thread can be started\n");
+        exit(2);
+    }
+    pthread_join(thread, NULL);
+    pthread_attr_destroy(&attributes);
 }

@@ -1,12 +1,12 @@
-// What the comparisons share: random numbers, and memory that is lent to a call between pages that can't be touched, with guard
-// bytes beside it.
+// What the comparisons share: random numbers, memory that is lent to a call between pages that can't be touched, with guard bytes
+// beside it, and a thread with a small stack.
 #ifndef SPAN_H
 #define SPAN_H
 
 #include <stddef.h>
 #include <stdint.h>
 
-enum { GUARD = 64 };
+enum { GUARD = 64, SMALL_STACK = 256 * 1024 };
 
 // Random numbers: 64 bits; 0 to below - 1; 1 in so many.
 void seed_random(uint64_t seed);
@@ -42,5 +42,8 @@ int guards_stand(const struct span *s);
 
 // Lets the pages of a span be written, or not.
 void protect_span(const struct span *s, int protection);
+
+// Runs a function in a thread of its own with a small stack.
+void on_small_stack(void (*function)(void));
 
 #endif

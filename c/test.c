@@ -10,7 +10,7 @@
 #include <string.h>
 #include <sys/mman.h>
 
-enum { MOST = 4100, SMALL_STACK = 256 * 1024, TURNS = 200 };
+enum { MOST = 4100, TURNS = 200 };
 
 static const uint64_t TOP = (uint64_t)1 << 44;
 
@@ -638,26 +638,6 @@ static void signal_at_limit(void)
 {
     meet_signal_of(512, 32, 0, 5, 0);
     meet_signal_of(512, 32, 7, 5, 1);
-}
-
-static void *run_in_thread(void *function)
-{
-    (*(void (**)(void))function)();
-    return NULL;
-}
-
-// Runs a function in a thread of its own with a small stack.
-static void on_small_stack(void (*function)(void))
-{
-    pthread_attr_t attributes;
-    pthread_t thread;
-    if (pthread_attr_init(&attributes) != 0 || pthread_attr_setstacksize(&attributes, SMALL_STACK) != 0 ||
-        pthread_create(&thread, &attributes, run_in_thread, &function) != 0) {
-        fprintf(stderr, "no thread can be started\n");
-        exit(2);
-    }
-    pthread_join(thread, NULL);
-    pthread_attr_destroy(&attributes);
 }
 
 static void small_stacks(void)

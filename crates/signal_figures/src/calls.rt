@@ -14,8 +14,8 @@ const START_MARK: u16 = 65535;
 
 const LEVEL_MARK: i16 = -32669;
 
-// What is lent beside the samples: the limit, the penalty p / q, and the number of places of each buffer.
-pub struct Lent {
+// What a call is given beside the samples: the limit, the penalty p / q, and the number of places of each buffer.
+pub struct Arguments {
     pub limit: u64,
     pub p: u64,
     pub q: u64,
@@ -26,10 +26,10 @@ pub struct Lent {
     pub scratch: usize,
 }
 
-impl Lent {
+impl Arguments {
     // A limit and a penalty, with all places of each buffer.
     pub fn of(limit: u64, p: u64, q: u64) -> Self {
-        Lent {
+        Arguments {
             limit: limit,
             p: p,
             q: q,
@@ -43,10 +43,10 @@ impl Lent {
 }
 
 // Whether the buffers have so many places.
-fn fits(lent: Lent) -> bool {
-    let segments = lent.starts <= 40 && lent.levels <= 40;
-    let path = lent.sizes <= 40 && lent.losses <= 40;
-    segments && path && lent.scratch <= SCRATCH
+fn fits(given: Arguments) -> bool {
+    let segments = given.starts <= 40 && given.levels <= 40;
+    let path = given.sizes <= 40 && given.losses <= 40;
+    segments && path && given.scratch <= SCRATCH
 }
 
 // A number of places, and at most all of them. With more no call is made.
@@ -104,22 +104,22 @@ fn others(bytes: &[u8; SCRATCH], value: u8) -> u64 {
 }
 
 // Splits a signal.
-fn split_all(samples: &[i16], lent: Lent) -> Outcome {
+fn split_all(samples: &[i16], given: Arguments) -> Outcome {
     let mut starts = [START_MARK; 40];
     let mut levels = [LEVEL_MARK; 40];
     let mut sizes = [MARK; 40];
     let mut losses = [MARK; 40];
     let mut scratch = [7u8; SCRATCH];
-    let starts_room = within(lent.starts, 40);
-    let levels_room = within(lent.levels, 40);
-    let sizes_room = within(lent.sizes, 40);
-    let losses_room = within(lent.losses, 40);
-    let scratch_room = within(lent.scratch, SCRATCH);
+    let starts_room = within(given.starts, 40);
+    let levels_room = within(given.levels, 40);
+    let sizes_room = within(given.sizes, 40);
+    let losses_room = within(given.losses, 40);
+    let scratch_room = within(given.scratch, SCRATCH);
     let made = signal::split(
         samples,
-        lent.limit,
-        lent.p,
-        lent.q,
+        given.limit,
+        given.p,
+        given.q,
         &mut starts[0..starts_room],
         &mut levels[0..levels_room],
         &mut sizes[0..sizes_room],
@@ -141,27 +141,27 @@ fn split_all(samples: &[i16], lent: Lent) -> Outcome {
 }
 
 // Splits the first samples, where there are so many.
-pub fn split(samples: &[i16], count: usize, lent: Lent) -> Outcome {
+pub fn split(samples: &[i16], count: usize, given: Arguments) -> Outcome {
     if samples.len() < count {
         return no_call();
     }
-    if !fits(lent) {
+    if !fits(given) {
         return no_call();
     }
-    split_all(&samples[0..count], lent)
+    split_all(&samples[0..count], given)
 }
 
 // Calls for the path of a signal. It is lent no starts and no levels.
-fn path_of_all(samples: &[i16], lent: Lent) -> Outcome {
+fn path_of_all(samples: &[i16], given: Arguments) -> Outcome {
     let mut sizes = [MARK; 40];
     let mut losses = [MARK; 40];
     let mut scratch = [7u8; SCRATCH];
-    let sizes_room = within(lent.sizes, 40);
-    let losses_room = within(lent.losses, 40);
-    let scratch_room = within(lent.scratch, SCRATCH);
+    let sizes_room = within(given.sizes, 40);
+    let losses_room = within(given.losses, 40);
+    let scratch_room = within(given.scratch, SCRATCH);
     let made = signal::signal_path(
         samples,
-        lent.limit,
+        given.limit,
         &mut sizes[0..sizes_room],
         &mut losses[0..losses_room],
         &mut scratch[0..scratch_room],
@@ -181,12 +181,12 @@ fn path_of_all(samples: &[i16], lent: Lent) -> Outcome {
 }
 
 // Calls for the path of the first samples, where there are so many.
-pub fn signal_path(samples: &[i16], count: usize, lent: Lent) -> Outcome {
+pub fn signal_path(samples: &[i16], count: usize, given: Arguments) -> Outcome {
     if samples.len() < count {
         return no_call();
     }
-    if !fits(lent) {
+    if !fits(given) {
         return no_call();
     }
-    path_of_all(&samples[0..count], lent)
+    path_of_all(&samples[0..count], given)
 }

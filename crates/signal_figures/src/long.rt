@@ -2,7 +2,7 @@
 // near breakpoints of the path, against what a plain dynamic programme finds.
 
 use crate::calls;
-use crate::calls::Lent;
+use crate::calls::Arguments;
 use crate::outcome;
 use crate::outcome::Outcome;
 use crate::outcome::Totals;
@@ -84,7 +84,11 @@ fn check_path(case: Case, before: Totals) -> Totals {
     let samples = case.samples;
     let found = case.found;
     let path = case.path;
-    let made = calls::signal_path(&samples, found.count as usize, Lent::of(case.limit, 0, 0));
+    let made = calls::signal_path(
+        &samples,
+        found.count as usize,
+        Arguments::of(case.limit, 0, 0),
+    );
     before.with_mismatches(plus(found.faults, outcome::faults(made, path)))
 }
 
@@ -109,7 +113,11 @@ fn check_split(case: Case, p: u64, q: u64, before: Totals) -> Totals {
     let found = case.found;
     let path = case.path;
     let least = found.least;
-    let made = calls::split(&samples, found.count as usize, Lent::of(case.limit, p, q));
+    let made = calls::split(
+        &samples,
+        found.count as usize,
+        Arguments::of(case.limit, p, q),
+    );
     let right = best(case, p, q);
     let totals = before.with_split(made, split_outcome(path, right));
     totals.with_mismatches(loss_fault(least, right))

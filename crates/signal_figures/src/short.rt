@@ -2,7 +2,7 @@
 // segmentation finds.
 
 use crate::calls;
-use crate::calls::Lent;
+use crate::calls::Arguments;
 use crate::every;
 use crate::every::Search;
 use crate::outcome;
@@ -74,7 +74,11 @@ fn check_path(case: Case, before: Totals) -> Totals {
     let samples = case.samples;
     let found = case.found;
     let path = case.path;
-    let made = calls::signal_path(&samples, found.count as usize, Lent::of(case.limit, 0, 0));
+    let made = calls::signal_path(
+        &samples,
+        found.count as usize,
+        Arguments::of(case.limit, 0, 0),
+    );
     before.with_mismatches(outcome::faults(made, path))
 }
 
@@ -92,7 +96,11 @@ fn right_split(case: Case, p: u64, q: u64) -> Outcome {
 fn check_split(case: Case, p: u64, q: u64, before: Totals) -> Totals {
     let samples = case.samples;
     let found = case.found;
-    let made = calls::split(&samples, found.count as usize, Lent::of(case.limit, p, q));
+    let made = calls::split(
+        &samples,
+        found.count as usize,
+        Arguments::of(case.limit, p, q),
+    );
     before.with_split(made, right_split(case, p, q))
 }
 
