@@ -2,7 +2,8 @@
 // the same numbers. Afterwards every field of the answers is compared, every element of every array with the items that the byte
 // strings then hold, and the guards beside the arrays. A size of 65,536 or more has no place in two bytes and stands as 0 in the
 // byte strings, which is out of range as well; where no call writes it has to stay. The refusals are compared besides with those
-// that R36 to R41 of docs/RULES.md give, on the numbers themselves.
+// that R36 to R41 of docs/RULES.md give, on the numbers themselves. Flat stretches, which are models with equal losses, have
+// figures of their own.
 // Usage: entries [SEED]
 // A seed leads to the same calls again if the same compiler is used.
 //
@@ -22,6 +23,12 @@
 //   12  the rules have 65,536 in the range of sizes
 //   13  a byte beside an array is changed
 //   14  a byte of an array is changed by a refused call
+//   15  the rules have 7 at a loss that equals the last entry's
+//   16  the rules compare a size with that of a model that was passed over
+//   17  the rules ask an append for room for a model that is passed over
+//   18  a test is expected for a model that an append passes over
+//   19  N in the count of tests, 2 N - 1 - M, counts models that were passed over
+//   20  a byte of an array is changed by an append that passes a model over
 #define _DEFAULT_SOURCE
 #include "../include/foldwig.h"
 #include "span.h"
@@ -65,6 +72,7 @@ static struct span spans[3 * ARRAYS];
 static unsigned long calls[CALLS], mismatches;
 static unsigned long refusals[CALLS][FOLDWIG_REFUSALS];     // how often a call answered a number
 static unsigned long nulls[CALLS][ARRAYS];                  // how often an array was lent as null
+static unsigned long passed_over[CALLS];                    // how many models were passed over
 
 // ---- Mismatches
 
@@ -205,8 +213,8 @@ static uint64_t wanted_number(int array, size_t column, size_t i, size_t end)
     return FAULT == 4 && i == end && end > 0 ? now ^ 1 : now;
 }
 
-// Compares every number of an array, and takes over what the call left.
-static void check_array(enum call call, int a, size_t end, int refused)
+// Compares every number of an array, and takes over what the call left, which wrote the places before an end.
+static void check_array(enum call call, int a, size_t end)
 {
     int differs = 0;
     for (size_t i = 0; i < held[a].len; i++)
@@ -219,7 +227,7 @@ static void check_array(enum call call, int a, size_t end, int refused)
         }
     if (differs > 0)
         count_mismatch();
-    if ((refused || !writes[call][a]) && memcmp(spans[a].at, held[a].at, spans[a].len) != 0) {
+    if (end == 0 && memcmp(spans[a].at, held[a].at, spans[a].len) != 0) {
         printf("mismatch: %s altered array %d, of %zu places\n", names[call], a, held[a].len);
         count_mismatch();
     }
@@ -232,23 +240,23 @@ static void check_array(enum call call, int a, size_t end, int refused)
     memcpy(held[a].at, spans[a].at, spans[a].len);
 }
 
-static void plant_in_memory(int refused)
+static void plant_in_memory(int refused, int passed)
 {
     struct span *s = &spans[PATH];
     if (FAULT == 13 && guard_behind(s) > 9)
         s->at[s->len + 9] ^= 1;
-    if (FAULT == 14 && refused && s->len > 0)
+    if (((FAULT == 14 && refused) || (FAULT == 20 && passed)) && s->len > 0)
         s->at[s->len - 1] ^= 1;
 }
 
 // Compares the answers, the refusal with that by the rules, and the arrays. A refused call answers zeros beside its number. An
-// accepted one writes the places before an end.
+// accepted one writes the places before an end, which is 0 for an append that passes its model over.
 static void check(enum call call, const struct answers *a, uint64_t rule, size_t end)
 {
     int refused = a->got[0] != 0;
     if (is_protected)
         protect_span(&spans[PATH], PROT_READ | PROT_WRITE);
-    plant_in_memory(refused);
+    plant_in_memory(refused, call == APPEND && !refused && end == 0);
     calls[call]++;
     if (memcmp(a->got, a->wanted, (size_t)a->fields * sizeof a->got[0]) != 0) {
         print_answers(call, a, "the call on byte strings");
@@ -264,7 +272,7 @@ static void check(enum call call, const struct answers *a, uint64_t rule, size_t
     }
     for (int i = 0; i < ARRAYS; i++)
         if (lent_to[call][i])
-            check_array(call, i, refused || !writes[call][i] ? 0 : end, refused);
+            check_array(call, i, refused || !writes[call][i] ? 0 : end);
     if (a->got[0] < FOLDWIG_REFUSALS)
         refusals[call][a->got[0]]++;
 }
@@ -283,17 +291,17 @@ static struct foldwig_entry entry(uint64_t size, uint64_t loss)
     return e;
 }
 
-// What a model is refused with behind a last one, which is null if there is none: 5, 6, 7, or 0 if it is not.
+// What a model is refused with behind a last entry, which is null if there is none: 5, 6, 7, or 0 if it is not.
 static uint64_t model_refusal(struct foldwig_entry m, const struct foldwig_entry *last)
 {
     if (m.size == 0 || m.size > (FAULT == 12 ? 65536 : 65535) || m.loss > TOP)
         return 5;
     if (last && m.size <= last->size)
         return 6;
-    return last && m.loss >= last->loss ? 7 : 0;
+    return last && (m.loss > last->loss || (FAULT == 15 && m.loss == last->loss)) ? 7 : 0;
 }
 
-// What the first bad one of n models is refused with.
+// What the first bad one of n models is refused with. Each is behind the last one before it that was not passed over.
 static uint64_t models_refusal(size_t n)
 {
     struct foldwig_entry last = {0, 0};
@@ -302,14 +310,28 @@ static uint64_t models_refusal(size_t n)
         uint64_t refusal = model_refusal(m, i > 0 ? &last : NULL);
         if (refusal != 0)
             return refusal;
-        last = m;
+        if (i == 0 || m.loss < last.loss || FAULT == 16)
+            last = m;
     }
     return 0;
 }
 
 static int bad_path(uint64_t n)
 {
-    return n > held[PATH].len || n > 4096 || models_refusal((size_t)n) != 0;
+    if (n > held[PATH].len || n > 4096)
+        return 1;
+    for (size_t i = 0; i < n; i++) {
+        struct foldwig_entry e = entry_at(PATH, i), before = entry_at(PATH, i > 0 ? i - 1 : 0);
+        if (model_refusal(e, NULL) != 0 || (i > 0 && (e.size <= before.size || e.loss >= before.loss)))
+            return 1;
+    }
+    return 0;
+}
+
+// Whether an append that is not refused passes its model over.
+static int passes_over(uint64_t n, struct foldwig_entry m)
+{
+    return n > 0 && m.loss == entry_at(PATH, (size_t)n - 1).loss;
 }
 
 // Whether the test of a new model holds at an entry (R13).
@@ -332,7 +354,7 @@ static uint64_t append_rule(uint64_t n, struct foldwig_entry m)
     if (n > 0)
         last = entry_at(PATH, (size_t)n - 1);
     refusal = model_refusal(m, n > 0 ? &last : NULL);
-    if (refusal != 0)
+    if (refusal != 0 || (passes_over(n, m) && FAULT != 17))
         return refusal;
     while (stay > 0 && !test_holds(stay - 1, m))
         stay--;
@@ -376,6 +398,7 @@ static struct foldwig_path_result compare_append(uint64_t n, uint64_t size, uint
 {
     struct foldwig_path_result got, wanted;
     uint64_t rule = append_rule(n, entry(size, loss));
+    int passed = rule == 0 && passes_over(n, entry(size, loss));
     lend(APPEND);
     got = foldwig_append_entries(ARRAY(PATH), n, size, loss);
     wanted = foldwig_append(BYTES(PATH, 0), BYTES(PATH, 1), told(n), size, loss);
@@ -384,7 +407,9 @@ static struct foldwig_path_result compare_append(uint64_t n, uint64_t size, uint
                         {n, size, loss},
                         {got.refusal, got.entries, got.tests, 0},
                         {wanted.refusal, wanted.entries, wanted.tests + (FAULT == 3 && wanted.tests > 0), 0}};
-    check(APPEND, &a, rule, (size_t)(got.entries > n ? got.entries : n));
+    check(APPEND, &a, rule, passed ? 0 : (size_t)(got.entries > n ? got.entries : n));
+    passed_over[APPEND] += (unsigned long)passed;
+    expect(!passed || (got.entries == n && got.tests == (FAULT == 18)), "a model that an append passes over");
     return got;
 }
 
@@ -402,6 +427,8 @@ static struct foldwig_path_result compare_build(void)
                         {got.refusal, got.entries, got.tests, 0},
                         {wanted.refusal, wanted.entries, wanted.tests + (FAULT == 3 && wanted.tests > 0), 0}};
     check(BUILD, &a, rule, held[PATH].len);
+    if (got.refusal == 0)
+        passed_over[BUILD] += held[PATH].len - (got.tests + 1 + got.entries) / 2;
     return got;
 }
 
@@ -465,6 +492,23 @@ static void make_models(size_t n, enum shape shape)
             loss += 1 + below(TOP / (n + 1) - 20);
         else
             loss += (slope == 0 ? 1 : slope) * (list[i].size - list[i - 1].size);
+    }
+}
+
+// Makes flat stretches in n models in order: gives some, or all but the first, the loss of the last one that keeps its own. Now
+// and then such a model gets another size above that one's, which may be above later sizes too.
+static void flatten(size_t n)
+{
+    struct foldwig_entry last = list[0];
+    uint64_t many = 1 + below(4);
+    for (size_t i = 1; i < n; i++) {
+        if (!one_in(many)) {
+            last = list[i];
+            continue;
+        }
+        list[i].loss = last.loss;
+        if (one_in(3))
+            list[i].size = last.size + 1 + below(one_in(2) ? 6 : 65535 - last.size);
     }
 }
 
@@ -561,6 +605,8 @@ static void random_builds(int turns)
     for (int turn = 0; turn < turns; turn++) {
         size_t n = some_length();
         make_models(n, some_shape());
+        if (one_in(2))
+            flatten(n);
         for (int damage = 0; damage < 3 && n > 0 && one_in(3); damage++)
             spoil(below(n), (int)below(DAMAGES));
         put_models(n, n);
@@ -593,6 +639,8 @@ static void random_paths(int turns)
         make_models(n, some_shape());
         last = n > 0 ? list[n - 1] : entry(0, TOP);
         new_model = entry(last.size + 1 + below(4), last.loss > 0 ? last.loss - 1 - below(last.loss < 9 ? last.loss : 9) : 0);
+        if (one_in(4))
+            new_model.loss = last.loss;
         if (n > 0 && one_in(4))
             spoil(below(n), (int)below(DAMAGES));
         put_models(n, len);
@@ -610,7 +658,7 @@ static void random_paths(int turns)
 // ---- Histories
 
 // Perhaps begins a history with a build, whose array then is that of the appends. It answers the number of entries, and keeps the
-// accepted models in the list.
+// accepted models, those passed over included, in the list.
 static uint64_t begin_history(size_t places, size_t *accepted, uint64_t *tests)
 {
     struct foldwig_path_result r = {0, 0, 0};
@@ -618,6 +666,8 @@ static uint64_t begin_history(size_t places, size_t *accepted, uint64_t *tests)
     fresh(MADE, places);
     if (one_in(2)) {
         make_models(n, some_shape());
+        if (one_in(2))
+            flatten(n);
         if (n > 0 && one_in(6))
             spoil(below(n), (int)below(DAMAGES));
         put_models(n, n);
@@ -629,17 +679,27 @@ static uint64_t begin_history(size_t places, size_t *accepted, uint64_t *tests)
     return r.entries;
 }
 
-// Appends one model, mostly one in order, to a path with a last entry, or to an empty one.
-static struct foldwig_path_result go_on(uint64_t entries, struct foldwig_entry last, struct foldwig_entry *m)
+// Appends one model, mostly one in order or with the loss of the last entry.
+static struct foldwig_path_result go_on(uint64_t entries, struct foldwig_entry *m)
 {
+    struct foldwig_entry last = entries > 0 ? entry_at(PATH, (size_t)entries - 1) : entry(0, 80 + below(300));
     *m = entry(last.size + 1 + (one_in(3) ? below(3) : 0), last.loss);
-    if (m->loss > 0)
+    if (m->loss > 0 && !one_in(3))
         m->loss -= 1 + below(m->loss < 6 ? m->loss : 6);
     if (one_in(10))
         m->size = one_in(2) ? last.size : one_in(2) ? wide(m->size) : some_number(65535);
     if (one_in(10))
         m->loss = one_in(2) ? last.loss : some_number(TOP);
     return compare_append(entries, m->size, m->loss);
+}
+
+// How many of the accepted models in the list were not passed over: those with a smaller loss than the model before.
+static size_t not_passed_over(size_t accepted)
+{
+    size_t count = 0;
+    for (size_t i = 0; i < accepted; i++)
+        count += i == 0 || list[i].loss < list[i - 1].loss || FAULT == 19;
+    return count;
 }
 
 // A build of the accepted models gives the path of the history, and as many tests.
@@ -654,7 +714,7 @@ static void check_history(uint64_t entries, size_t accepted, uint64_t tests)
     expect(r.refusal == (accepted == 0), "a build of the models that a history accepted is refused");
     expect(r.entries == entries && r.tests == tests, "a build of the models of a history answers something else");
     expect(memcmp(held[MADE].at, path, (size_t)entries * 2 * sizeof path[0]) == 0, "a build makes another path than a history");
-    expect(accepted == 0 || tests == 2 * accepted - 1 - entries, "the tests of a history are not 2N - 1 - M");
+    expect(accepted == 0 || tests == 2 * not_passed_over(accepted) - 1 - entries, "the tests of a history are not 2N - 1 - M");
     memcpy(held[PATH].at, path, sizeof path);
     held[PATH].len = (size_t)entries;
 }
@@ -665,8 +725,8 @@ static void random_histories(int turns)
         size_t accepted;
         uint64_t tests, entries = begin_history(1 + below(one_in(3) ? 4 : 40), &accepted, &tests);
         for (size_t left = below(40); left > 0; left--) {
-            struct foldwig_entry m, last = accepted > 0 ? list[accepted - 1] : entry(0, 80 + below(300));
-            struct foldwig_path_result r = go_on(entries, last, &m);
+            struct foldwig_entry m;
+            struct foldwig_path_result r = go_on(entries, &m);
             if (r.refusal != 0)
                 continue;
             list[accepted++] = m;
@@ -829,7 +889,10 @@ static void wide_in_build(size_t n, size_t at)
     expect(compare_build().refusal == 6, "a build with a wide size behind a size that is not larger");
     list[at - 1] = entry(kept.size, list[at - 2].loss);
     put_models(n, n);
-    expect(compare_build().refusal == 7, "a build with a wide size behind a loss that is not smaller");
+    expect(compare_build().refusal == 5, "a build with a wide size behind a model that is passed over");
+    list[at - 1] = entry(kept.size, list[at - 2].loss + 1);
+    put_models(n, n);
+    expect(compare_build().refusal == 7, "a build with a wide size behind a loss that is larger");
 }
 
 static void wide_sizes(int turns)
@@ -855,6 +918,8 @@ static void builds_at_limit(enum shape shape)
         for (size_t room = n - 1; room <= n + 2; room++) {
             struct foldwig_path_result r;
             make_models(n, shape);
+            if (one_in(2))
+                flatten(n);
             put_models(n, n);
             fresh(MADE, room);
             r = compare_build();
@@ -883,6 +948,7 @@ static void paths_at_limit(enum shape shape)
         compare_breakpoints(said);
         compare_append(said, last.size + 1, last.loss - 1);
         put_models(n, n);
+        compare_append(said, last.size + 1, last.loss);
         compare_append(said, 65535, 0);
         put_models(MOST, MOST);
         compare_append(said, last.size + 1, last.loss > 900 ? last.loss - 900 : 0);
@@ -896,12 +962,149 @@ static void fill_up(void)
     for (size_t i = 0; i < MOST; i++)
         list[i] = entry(i + 1, 10000 + (MOST - i) * (MOST - i));
     put_models((size_t)n, MOST);
-    for (; n < 4096; n++)
+    for (; n < 4096; n++) {
         expect(compare_append(n, list[n].size, list[n].loss).entries == n + 1, "an append that drops nothing");
+        expect(compare_append(n + 1, 65535, list[n].loss).entries == n + 1, "an append that is passed over");
+    }
     expect(compare_append(n, list[n].size, list[n].loss).refusal == 9, "an append to a full path");
     n = compare_append(n, 4097, 0).entries;
     expect(n > 0 && n < 4096, "an append to a full path that drops entries");
     compare_append(n, 65535, 0);
+}
+
+// ---- Figures of flat stretches
+
+// Whether an array holds so many entries, and zeros behind them up to an end.
+static int holds_path(int array, const struct foldwig_entry *path, size_t entries, size_t end)
+{
+    for (size_t i = 0; i < end; i++) {
+        struct foldwig_entry wanted = i < entries ? path[i] : entry(0, 0), e = entry_at(array, i);
+        if (e.size != wanted.size || e.loss != wanted.loss)
+            return 0;
+    }
+    return 1;
+}
+
+static int answers(struct foldwig_path_result r, uint64_t refusal, uint64_t entries, uint64_t tests)
+{
+    return r.refusal == refusal && r.entries == entries && r.tests == tests;
+}
+
+// Builds n models of the list into so many places.
+static struct foldwig_path_result build_list(size_t n, size_t places)
+{
+    put_models(n, n);
+    fresh(MADE, places);
+    return compare_build();
+}
+
+// Builds of models of which some are passed over, what they answer and the paths that they leave.
+static const struct {
+    const char *what;
+    size_t n;
+    struct foldwig_entry given[6];
+    uint64_t refusal;
+    size_t entries;
+    struct foldwig_entry path[3];
+    uint64_t tests;
+} flat_builds[] = {
+    {"the first model twice", 2, {{1, 5}, {1, 5}}, 6, 0, {{0, 0}}, 0},
+    {"the first loss twice", 2, {{1, 5}, {2, 5}}, 0, 1, {{1, 5}}, 0},
+    {"a passed-over model twice", 3, {{1, 5}, {2, 5}, {2, 5}}, 0, 1, {{1, 5}}, 0},
+    {"a size below a passed-over one", 3, {{1, 5}, {3, 5}, {2, 4}}, 0, 2, {{1, 5}, {2, 4}}, 1},
+    {"a size that was passed over", 3, {{1, 5}, {3, 5}, {3, 4}}, 0, 2, {{1, 5}, {3, 4}}, 1},
+    {"the last entry's size and loss", 3, {{2, 5}, {4, 5}, {2, 5}}, 6, 0, {{0, 0}}, 0},
+    {"the last entry's size, a smaller loss", 3, {{2, 5}, {4, 5}, {2, 4}}, 6, 0, {{0, 0}}, 0},
+    {"a smaller size, the last entry's loss", 3, {{2, 5}, {4, 5}, {1, 5}}, 6, 0, {{0, 0}}, 0},
+    {"a wide size, the last entry's loss", 3, {{2, 5}, {4, 5}, {65539, 5}}, 5, 0, {{0, 0}}, 0},
+    {"a larger loss below a passed-over size", 3, {{1, 5}, {3, 5}, {2, 6}}, 7, 0, {{0, 0}}, 0},
+    // The models 1, 2 and 3 with the losses 7, 4 and 0, each followed by one that is passed over: 1 test, then 2.
+    {"a test that fails", 6, {{1, 7}, {2, 7}, {2, 4}, {5, 4}, {3, 0}, {4, 0}}, 0, 2, {{1, 7}, {3, 0}}, 3},
+    // The losses 7, 4 and 2: 1 test, then 1.
+    {"tests that hold", 6, {{1, 7}, {9, 7}, {2, 4}, {8, 4}, {7, 4}, {3, 2}}, 0, 3, {{1, 7}, {2, 4}, {3, 2}}, 2},
+};
+
+static void flat_build_figures(void)
+{
+    for (size_t i = 0; i < sizeof flat_builds / sizeof flat_builds[0]; i++) {
+        size_t n = flat_builds[i].n;
+        struct foldwig_path_result r;
+        memcpy(list, flat_builds[i].given, n * sizeof list[0]);
+        r = build_list(n, n + 1);
+        expect(answers(r, flat_builds[i].refusal, flat_builds[i].entries, flat_builds[i].tests), flat_builds[i].what);
+        if (flat_builds[i].refusal != 0)
+            continue;
+        expect(holds_path(MADE, flat_builds[i].path, flat_builds[i].entries, n), flat_builds[i].what);
+        expect(answers(build_list(n, n - 1), 9, 0, 0), "a build without a place for a model that is passed over");
+    }
+}
+
+// 48 models with falling losses, 4,000 with the last one's, and 48 with falling losses again, whose sizes go on from the first
+// 48. The loss of size k is the square of 96 - k, so that all of the 96 stay, and each but the first takes 1 test.
+static void long_flat_figures(void)
+{
+    static struct foldwig_entry path[96];
+    for (uint64_t i = 0; i < 96; i++)
+        path[i] = entry(i + 1, (95 - i) * (95 - i));
+    memcpy(list, path, 48 * sizeof list[0]);
+    for (uint64_t i = 0; i < 4000; i++)
+        list[48 + i] = entry(49 + i, path[47].loss);
+    memcpy(list + 4048, path + 48, 48 * sizeof list[0]);
+    expect(answers(build_list(4096, 4098), 0, 96, 95), "4,000 equal losses between others");
+    expect(holds_path(MADE, path, 96, 4096), "the path of 4,000 equal losses between others");
+    for (uint64_t i = 0; i < 4097; i++)
+        list[i] = entry(i + 1, 5);
+    expect(answers(build_list(4000, 4000), 0, 1, 0) && holds_path(MADE, list, 1, 4000), "4,000 equal losses");
+    expect(answers(build_list(4096, 4096), 0, 1, 0) && holds_path(MADE, list, 1, 4096), "4,096 equal losses");
+    expect(answers(build_list(4096, 4095), 9, 0, 0), "4,096 equal losses without a place for each model");
+    expect(answers(build_list(4097, 4097), 2, 0, 0), "4,097 equal losses");
+}
+
+// Appends to a path that fills its array, and then to a full path of 4,096 entries whose breakpoints fall, from 8,191 down to 3.
+static void full_append_figures(void)
+{
+    static const struct foldwig_entry two[] = {{1, 7}, {2, 4}};
+    memcpy(list, two, sizeof two);
+    put_models(2, 2);
+    expect(answers(compare_append(2, 3, 4), 0, 2, 0), "the last loss, to a full array");
+    expect(answers(compare_append(2, 65535, 4), 0, 2, 0), "the last loss with the largest size, to a full array");
+    expect(answers(compare_append(2, 65536, 4), 5, 0, 0), "the last loss with a wide size, to a full array");
+    expect(answers(compare_append(2, 2, 4), 6, 0, 0), "the last loss with the last size, to a full array");
+    expect(answers(compare_append(2, 3, 5), 7, 0, 0), "a larger loss, to a full array");
+    expect(answers(compare_append(2, 3, 2), 9, 0, 0), "a smaller loss that drops nothing, to a full array");
+    expect(holds_path(PATH, two, 2, 2), "a full array after appends that leave it");
+    for (uint64_t i = 0; i < 4096; i++)
+        list[i] = entry(i + 1, 100 + (4096 - i) * (4096 - i));
+    for (size_t places = 4096; places <= 4097; places++) {
+        put_models(4096, places);
+        expect(answers(compare_append(4096, 4097, 101), 0, 4096, 0), "the last loss, to 4,096 entries");
+        expect(answers(compare_append(4096, 65535, 101), 0, 4096, 0), "the last loss with the largest size, to 4,096 entries");
+        expect(answers(compare_append(4096, 4096, 101), 6, 0, 0), "the last loss with the last size, to 4,096 entries");
+        expect(answers(compare_append(4096, 4097, 102), 7, 0, 0), "a larger loss, to 4,096 entries");
+        expect(answers(compare_append(4096, 4097, 100), 9, 0, 0), "a smaller loss that drops nothing, to 4,096 entries");
+        expect(holds_path(PATH, list, 4096, 4096), "4,096 entries after appends that leave them");
+        expect(answers(compare_append(4096, 4097, 98), 0, 4096, 2), "a smaller loss that drops an entry of 4,096");
+    }
+}
+
+// A history: an entry, one that is passed over, one of a smaller size than that, one that is passed over and one that drops.
+static void flat_history_figure(void)
+{
+    static const struct foldwig_entry path[] = {{1, 5}, {3, 0}};
+    fresh(PATH, 2);
+    expect(answers(compare_append(0, 1, 5), 0, 1, 0), "a first append");
+    expect(answers(compare_append(1, 3, 5), 0, 1, 0), "an append that is passed over");
+    expect(answers(compare_append(1, 2, 4), 0, 2, 1), "an append of a smaller size than the one passed over");
+    expect(answers(compare_append(2, 65535, 4), 0, 2, 0), "a second append that is passed over");
+    expect(answers(compare_append(2, 3, 0), 0, 2, 2) && holds_path(PATH, path, 2, 2), "an append that drops an entry");
+}
+
+static void flat_figures(void)
+{
+    flat_build_figures();
+    long_flat_figures();
+    full_append_figures();
+    flat_history_figure();
 }
 
 // ---- Threads
@@ -968,6 +1171,10 @@ static void wide_lengths(void)
 static int unseen(enum call call)
 {
     int count = 0;
+    if ((call == APPEND || call == BUILD) && passed_over[call] == 0) {
+        printf("not seen: %s that passes a model over\n", names[call]);
+        count++;
+    }
     for (int i = 0; i < ARRAYS; i++)
         if (lent_to[call][i] && nulls[call][i] == 0) {
             printf("not seen: %s with null as array %d\n", names[call], i);
@@ -981,8 +1188,8 @@ static int unseen(enum call call)
     return count;
 }
 
-// Prints what was compared, and answers the status of the program: 0 if nothing differed and if every refusal and null for every
-// array was seen.
+// Prints what was compared, and answers the status of the program: 0 if nothing differed and if every refusal, null for every
+// array and models that are passed over were seen.
 static int summary(void)
 {
     unsigned long all = 0;
@@ -993,6 +1200,7 @@ static int summary(void)
         if (mismatches == 0)
             missing += unseen((enum call)call);
     }
+    printf("models passed over: %lu by appends, %lu by builds\n", passed_over[APPEND], passed_over[BUILD]);
     printf("calls compared: %lu, mismatches: %lu\n", all, mismatches);
     return mismatches > 0 || missing > 0;
 }
@@ -1004,6 +1212,7 @@ int main(int argc, char **argv)
     printf("seed %llu\n", (unsigned long long)seed);
     seed_random(seed);
     map_spans();
+    flat_figures();
     random_builds(40000);
     random_paths(30000);
     random_histories(5000);

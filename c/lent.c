@@ -22,6 +22,7 @@ static unsigned long calls[CALLS], mismatches;
 static unsigned long refusals[CALLS][FOLDWIG_REFUSALS];             // how often a call answered a number
 static unsigned long met[CALLS][FOLDWIG_REFUSALS][FOLDWIG_REFUSALS];    // how often two causes held at once
 static unsigned long nulls[CALLS][BUFFERS];                         // how often a byte string was lent as null
+static unsigned long passed_over[CALLS];                            // how many models were passed over
 static const char *const names[CALLS] = {"append", "build", "select", "breakpoints", "signal_path", "split"};
 
 // ---- Buffers
@@ -184,6 +185,7 @@ struct foldwig_path_result compare_append(uint64_t entries, uint64_t size, uint6
                         {got.refusal, got.entries, got.tests, 0},
                         {wanted.refusal, wanted.entries, wanted.tests, 0}};
     check(APPEND, &a, causes);
+    passed_over[APPEND] += wanted.refusal == 0 && entries > 0 && wanted.tests == 0;
     return wanted;
 }
 
@@ -200,6 +202,8 @@ struct foldwig_path_result compare_build(void)
                         {got.refusal, got.entries, got.tests, 0},
                         {wanted.refusal, wanted.entries, wanted.tests, 0}};
     check(BUILD, &a, causes);
+    if (wanted.refusal == 0)
+        passed_over[BUILD] += lent[0].span.len / 2 - (wanted.tests + 1 + wanted.entries) / 2;
     return wanted;
 }
 
@@ -282,6 +286,10 @@ static int can_meet(enum call call, int a, int b)
 static int unseen(enum call call)
 {
     int count = 0;
+    if ((call == APPEND || call == BUILD) && passed_over[call] == 0) {
+        printf("not seen: %s that passes a model over\n", names[call]);
+        count++;
+    }
     for (int i = 0; i < lent_to[call]; i++)
         if (nulls[call][i] == 0) {
             printf("not seen: %s with null as its byte string %d\n", names[call], i + 1);
@@ -320,6 +328,7 @@ int summary(void)
         all += calls[call];
         missing += unseen((enum call)call);
     }
+    printf("models passed over: %lu by appends, %lu by builds\n", passed_over[APPEND], passed_over[BUILD]);
     printf("calls compared: %lu, mismatches: %lu\n", all, mismatches);
     return mismatches > 0 || missing > 0;
 }

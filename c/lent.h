@@ -36,7 +36,7 @@ struct foldwig_split_result compare_split(uint64_t max_segments, uint64_t p, uin
 void expect(int so, const char *what);
 
 // Prints what was compared, and answers the status of the program: 0 if nothing differed and if every refusal, every pair of
-// causes that can meet and null for every byte string was seen.
+// causes that can meet, null for every byte string and models that are passed over were seen.
 int summary(void);
 
 #endif

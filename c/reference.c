@@ -108,27 +108,29 @@ static struct fraction between(struct model a, struct model b)
     return f;
 }
 
-// Model j is strictly cheaper than a smaller one below the breakpoint of the two, and than a larger one above it. So it can win
-// if the least of the breakpoints with smaller models is above the greatest of those with larger ones, and above 0.
+// Model j is strictly cheaper than a smaller one with a larger loss below the breakpoint of the two, and than a larger one with
+// no larger loss above it. Than any other with a larger loss it is always cheaper, and than the rest never. So it can win if
+// there is no such rest and the least breakpoint with a smaller model is above the greatest with a larger one.
 int can_win(const struct model *models, size_t n, size_t j)
 {
     struct fraction high = {1, 0};
     struct fraction low = {0, 1};
-    for (size_t i = 0; i < j; i++) {
-        struct fraction f = between(models[i], models[j]);
-        if (i == 0 || less(f, high))
-            high = f;
+    struct model m = models[j];
+    for (size_t i = 0; i < n; i++) {
+        struct model other = models[i];
+        if (i == j || (other.size >= m.size && other.loss > m.loss))
+            continue;
+        if (other.size > m.size) {
+            struct fraction f = between(m, other);
+            low = less(low, f) ? f : low;
+        } else if (other.loss > m.loss) {
+            struct fraction f = between(other, m);
+            high = less(f, high) ? f : high;
+        } else {
+            return 0;
+        }
     }
-    for (size_t i = j + 1; i < n; i++) {
-        struct fraction f = between(models[j], models[i]);
-        if (less(low, f))
-            low = f;
-    }
-    if (j == 0 || less(low, high))
-        return 1;
-    if (FAULT == 1 && !less(high, low) && high.numerator > 0)
-        return 1;
-    return FAULT == 10 && high.numerator == 0 && low.numerator == 0;
+    return FAULT == 1 ? !less(high, low) : less(low, high);
 }
 
 static uint64_t cost(struct model m, uint64_t p, uint64_t q)
@@ -136,19 +138,30 @@ static uint64_t cost(struct model m, uint64_t p, uint64_t q)
     return q * m.loss + p * m.size;
 }
 
-// Whether a later model is to be taken instead of an earlier one.
-static int better(uint64_t later, uint64_t earlier)
+// Whether a model is to be taken instead of another: it costs less, or as much at a smaller size.
+static int better(struct model a, struct model b, uint64_t p, uint64_t q)
 {
-    return FAULT == 2 ? later <= earlier : later < earlier;
+    if (cost(a, p, q) != cost(b, p, q))
+        return cost(a, p, q) < cost(b, p, q);
+    return FAULT == 2 ? a.size > b.size : a.size < b.size;
 }
 
 size_t cheapest(const struct model *models, size_t n, uint64_t p, uint64_t q)
 {
     size_t best = 0;
     for (size_t i = 1; i < n; i++)
-        if (better(cost(models[i], p, q), cost(models[best], p, q)))
+        if (better(models[i], models[best], p, q))
             best = i;
     return best;
+}
+
+// A model is passed over if its loss is that of the one before it, which is the last entry or was passed over itself.
+size_t not_passed_over(const struct model *models, size_t n)
+{
+    size_t count = 0;
+    for (size_t i = 0; i < n; i++)
+        count += i == 0 || models[i].loss < models[i - 1].loss || FAULT == 28;
+    return count;
 }
 
 // ---- Paths
@@ -180,7 +193,7 @@ static void put_path(struct bytes sizes, struct bytes losses, size_t entries, si
         put_model(sizes, losses, i, zero);
 }
 
-// Makes the path of n models from those that can win, and answers its number of entries.
+// Makes the path of n models, those passed over included, from those that can win, and answers its number of entries.
 static size_t winners(size_t n)
 {
     size_t entries = 0;
@@ -226,10 +239,18 @@ static size_t staying(size_t entries, struct model new_model)
     return stay;
 }
 
-// The causes that a new model has beside a last one, which is null if there is none.
+// The causes that a new model has beside the last entry, which is null if there is none.
 static unsigned model_causes(struct model m, const struct model *last)
 {
-    return cause_if(5, bad_model(m)) | cause_if(6, last && m.size <= last->size) | cause_if(7, last && m.loss >= last->loss);
+    int equal = last && m.loss == last->loss;
+    unsigned causes = cause_if(5, bad_model(m)) | cause_if(6, last && m.size <= last->size && !(FAULT == 29 && equal));
+    return causes | cause_if(7, last && (m.loss > last->loss || (FAULT == 24 && equal)));
+}
+
+// Whether an append of a model that is not refused with 8, 5, 6 or 7 passes it over. The entries are in models.
+static int passed_over(uint64_t entries, struct model m)
+{
+    return FAULT != 32 && entries > 0 && m.loss == models[entries - 1].loss;
 }
 
 // The causes of an append. After a bad path or with a bad model no entry counts as dropped.
@@ -237,16 +258,18 @@ static unsigned append_causes(struct bytes sizes, struct bytes losses, uint64_t 
 {
     size_t room = smaller(places(sizes, losses), MAX_MODELS);
     unsigned causes = cause_if(8, bad_path(sizes, losses, entries));
-    uint64_t stay = entries;
+    int full = entries >= room;
     if (entries > 0 && entries <= places(sizes, losses)) {
         struct model last = model_at(sizes, losses, entries - 1);
         causes |= model_causes(m, &last);
     } else {
         causes |= model_causes(m, NULL);
     }
-    if (causes == 0 && FAULT != 14)
-        stay = staying(entries, m);
-    return causes | cause_if(9, stay >= room) | cause_if(11, odd_length(sizes, 2) || odd_length(losses, 8));
+    if (causes == 0 && passed_over(entries, m))
+        full = FAULT == 27 && full;
+    else if (causes == 0 && FAULT != 14)
+        full = staying(entries, m) >= room;
+    return causes | cause_if(9, full) | cause_if(11, odd_length(sizes, 2) || odd_length(losses, 8));
 }
 
 struct foldwig_path_result reference_append(struct bytes sizes, struct bytes losses, uint64_t entries, uint64_t size,
@@ -261,6 +284,11 @@ struct foldwig_path_result reference_append(struct bytes sizes, struct bytes los
     r.refusal = first_of(*causes, FAULT == 21 ? wrong : right);
     if (r.refusal != 0)
         return r;
+    if (passed_over(entries, m)) {
+        r.entries = entries;
+        r.tests = FAULT == 26;
+        return r;
+    }
     stay = staying(entries, m);
     memcpy(path, models, stay * sizeof path[0]);
     path[stay] = m;
@@ -272,24 +300,28 @@ struct foldwig_path_result reference_append(struct bytes sizes, struct bytes los
     return r;
 }
 
-// The causes of one of the models of a build, which may lack its size or its loss.
-static unsigned build_model_causes(struct bytes sizes, struct bytes losses, size_t i)
+// The causes of one of the models of a build, which may lack its size or its loss. Of those before it the last one that was not
+// passed over is handed over and, if the model itself is not passed over, replaced by it.
+static unsigned build_model_causes(struct bytes sizes, struct bytes losses, size_t i, struct model *last)
 {
-    struct model last;
+    struct model m;
+    unsigned causes;
     if (i >= places(sizes, losses))
         return 1u << 5;
-    if (i == 0)
-        return model_causes(model_at(sizes, losses, i), NULL);
-    last = model_at(sizes, losses, i - 1);
-    return model_causes(model_at(sizes, losses, i), &last);
+    m = model_at(sizes, losses, i);
+    causes = model_causes(m, i == 0 ? NULL : last);
+    if (i == 0 || m.loss != last->loss || FAULT == 25)
+        *last = m;
+    return causes;
 }
 
 // The causes of the first bad one of n models.
 static unsigned first_bad_causes(struct bytes sizes, struct bytes losses, size_t n)
 {
+    struct model last = {0, 0};
     unsigned all = 0;
     for (size_t i = 0; i < n; i++) {
-        unsigned causes = build_model_causes(sizes, losses, i);
+        unsigned causes = build_model_causes(sizes, losses, i, &last);
         if (causes != 0 && FAULT != 16)
             return causes;
         all |= causes;
@@ -303,26 +335,29 @@ struct foldwig_path_result reference_build(struct bytes sizes, struct bytes loss
     static const int order[] = {1, 2, 5, 6, 7, 9, 0};
     struct foldwig_path_result r = {0, 0, 0};
     size_t n = FAULT == 17 ? places(sizes, losses) : larger(sizes.len / 2, losses.len / 8);
-    size_t room = places(path_sizes, path_losses);
+    size_t room = places(path_sizes, path_losses), tried;
     *causes = cause_if(11, odd_length(sizes, 2) || odd_length(losses, 8));
     *causes |= cause_if(11, odd_length(path_sizes, 2) || odd_length(path_losses, 8));
     *causes |= cause_if(1, n == 0) | cause_if(2, n > MAX_MODELS);
-    *causes |= first_bad_causes(sizes, losses, n) | cause_if(9, FAULT != 8 && room < n);
+    *causes |= first_bad_causes(sizes, losses, n) | cause_if(9, FAULT != 8 && FAULT != 30 && room < n);
     r.refusal = first_of(*causes, order);
     if (r.refusal != 0)
         return r;
     for (size_t i = 0; i < n; i++)
         models[i] = model_at(sizes, losses, i);
     r.entries = winners(n);
-    if (FAULT == 8 && room < r.entries) {
+    tried = not_passed_over(models, n);
+    if ((FAULT == 8 && room < r.entries) || (FAULT == 30 && room < tried)) {
         r.refusal = 9;
         r.entries = 0;
         return r;
     }
-    r.tests = 2 * n - 1 - r.entries;
-    if (FAULT == 12 && n > 1)
+    r.tests = 2 * tried - 1 - r.entries;
+    if (FAULT == 12 && tried > 1)
         r.tests--;
-    put_path(path_sizes, path_losses, r.entries, FAULT == 8 ? smaller(n, room) : n);
+    if (FAULT == 26)
+        r.tests += n - tried;
+    put_path(path_sizes, path_losses, r.entries, smaller(FAULT == 31 ? tried : n, room));
     return r;
 }
 
@@ -339,7 +374,7 @@ struct foldwig_select_result reference_select(struct bytes sizes, struct bytes l
     r.refusal = first_of(*causes, FAULT == 9 ? wrong : right);
     if (r.refusal != 0)
         return r;
-    while (r.index + 1 < entries && better(cost(models[r.index + 1], p, q), cost(models[r.index], p, q)))
+    while (r.index + 1 < entries && better(models[r.index + 1], models[r.index], p, q))
         r.index++;
     if (FAULT == 23)
         r.index = cheapest(models, entries, p, q);
@@ -618,6 +653,15 @@ static size_t make_models(struct bytes samples, uint64_t max_segments)
     return largest;
 }
 
+// Makes the path of a signal from its models, and answers its number of entries.
+static size_t signal_winners(size_t largest)
+{
+    size_t entries = winners(largest);
+    if (FAULT == 10 && largest > 1 && models[largest - 1].loss == models[largest - 2].loss)
+        path[entries++] = models[largest - 1];
+    return entries;
+}
+
 static void clear_scratch(struct bytes scratch)
 {
     memset(scratch.at, 0, FAULT == 13 ? 31744 : scratch.len);
@@ -634,7 +678,7 @@ struct foldwig_signal_path_result reference_signal_path(struct bytes samples, ui
     if (r.refusal != 0)
         return r;
     largest = make_models(samples, max_segments);
-    r.entries = winners(largest);
+    r.entries = signal_winners(largest);
     put_path(path_sizes, path_losses, r.entries, largest);
     clear_scratch(scratch);
     return r;
@@ -673,7 +717,7 @@ struct foldwig_split_result reference_split(struct bytes samples, uint64_t max_s
         r.segments = 0;
         return r;
     }
-    r.entries = winners(largest);
+    r.entries = signal_winners(largest);
     r.loss = (uint64_t)loss_of_starts(r.segments, n);
     put_path(path_sizes, path_losses, r.entries, largest);
     put_segments(starts, levels, r.segments, n);

@@ -12,7 +12,7 @@
 //    7  items have their high byte first
 //    8  a build needs room for its path only
 //    9  a bad penalty is found before an empty path, and a short buffer before a bad penalty
-//   10  a size with the loss of the size before it is on a signal's path
+//   10  a signal's largest size is on its path even with the loss of the size before it
 //   11  a length that is no whole number of items is found last
 //   12  the test at the first entry is not counted
 //   13  the scratch is zeroed up to its least length only
@@ -26,6 +26,15 @@
 //   21  an append finds a bad model before a bad path
 //   22  a split needs room for the starts and levels that it writes only
 //   23  a selection gives the cheapest entry of any list
+//   24  a loss that equals the last entry's gets 7
+//   25  a build compares a size with that of a model that was passed over
+//   26  a test is counted for a model that is passed over
+//   27  an append needs room for a model that is passed over
+//   28  N in the count of tests, 2 N - 1 - M, counts models that were passed over
+//   29  a model with the last entry's loss is passed over whatever its size
+//   30  a build needs no room for models that are passed over
+//   31  the zeros behind a build's path go no further than the number of models that were not passed over
+//   32  an append puts a model that is to be passed over behind the path
 #ifndef REFERENCE_H
 #define REFERENCE_H
 
@@ -54,11 +63,14 @@ uint64_t get_item(struct bytes b, size_t width, size_t i);
 int64_t get_signed(struct bytes b, size_t i);
 void put_item(struct bytes b, size_t width, size_t i, uint64_t value);
 
-// Whether model j of n models is, at some penalty, strictly cheaper than each other one. Sizes rise and losses never rise.
+// Whether model j of n models in any order is, at some penalty, strictly cheaper than each other one.
 int can_win(const struct model *models, size_t n, size_t j);
 
 // The place of the smallest of the cheapest models at the penalty p / q.
 size_t cheapest(const struct model *models, size_t n, uint64_t p, uint64_t q);
+
+// How many of n accepted models, in the order in which they came, were not passed over.
+size_t not_passed_over(const struct model *models, size_t n);
 
 // Each of these does what the call of the same name does. Bit n of *causes is set if the cause of refusal n holds, whether or not
 // it is the first one.

@@ -1,5 +1,6 @@
-// Compares the six calls with the reference: on worked figures, on random and tied inputs, at and past every limit, on damaged
-// paths, with lists of unequal and of odd length, and with every pair of refusal causes that can meet.
+// Compares the six calls with the reference: on worked figures, on random and tied inputs, on flat stretches, which are models
+// with equal losses, at and past every limit, on damaged paths, with lists of unequal and of odd length, and with every pair of
+// refusal causes that can meet.
 // Usage: test [SEED]
 // A seed leads to the same calls again if the same compiler is used.
 #define _DEFAULT_SOURCE
@@ -47,6 +48,23 @@ static void make_models(size_t n, enum shape shape)
             loss += 1 + below(TOP / (n + 1) - 20);
         else
             loss += (slope == 0 ? 1 : slope) * (list[i].size - list[i - 1].size);
+    }
+}
+
+// Makes flat stretches in n models in order: gives some, or all but the first, the loss of the last one that keeps its own. Now
+// and then such a model gets another size above that one's, which may be above later sizes too.
+static void flatten(size_t n)
+{
+    struct model last = list[0];
+    uint64_t many = 1 + below(4);
+    for (size_t i = 1; i < n; i++) {
+        if (!one_in(many)) {
+            last = list[i];
+            continue;
+        }
+        list[i].loss = last.loss;
+        if (one_in(3))
+            list[i].size = last.size + 1 + below(one_in(2) ? 6 : 65535 - last.size);
     }
 }
 
@@ -123,6 +141,8 @@ static void random_builds(int turns)
     for (int turn = 0; turn < turns; turn++) {
         size_t n = one_in(60) ? below(300) : below(13);
         make_models(n, (enum shape)below(SHAPES));
+        if (one_in(2))
+            flatten(n);
         if (n > 0 && one_in(4))
             spoil(below(n), (int)below(DAMAGES));
         put_models(0, n, one_in(12) ? about(n) : n, one_in(12) ? about(n) : n);
@@ -145,6 +165,8 @@ static void random_lists(int turns)
         size = (n > 0 ? list[n - 1].size : 0) + 1 + below(4);
         loss = n > 0 && list[n - 1].loss > 0 ? list[n - 1].loss - 1 - below(list[n - 1].loss < 9 ? list[n - 1].loss : 9) : 0;
         if (n > 0 && one_in(4))
+            loss = list[n - 1].loss;
+        if (n > 0 && one_in(4))
             spoil(below(n), (int)below(DAMAGES));
         put_models(0, n, places + below(2), places + below(2));
         if (one_in(20))
@@ -161,7 +183,7 @@ static void random_lists(int turns)
 
 // ---- Histories
 
-static struct model accepted[MOST];     // the accepted models of a history
+static struct model accepted[MOST];     // the accepted models of a history, those passed over included
 static size_t accepted_count;
 static uint64_t tests_made;
 
@@ -184,6 +206,8 @@ static uint64_t begin_history(size_t places)
         make_models(n, TIED);
         for (size_t i = 0; i < n; i++)
             list[i].loss += 60;
+        if (one_in(2))
+            flatten(n);
         if (n > 0 && one_in(6))
             spoil(below(n), (int)below(DAMAGES));
         put_models(0, n, n, n);
@@ -197,13 +221,15 @@ static uint64_t begin_history(size_t places)
     return r.entries;
 }
 
-// Appends one model, mostly one in order, and answers the number of entries afterwards.
+// Appends one model, mostly one in order or with the loss of the last entry, and answers the number of entries afterwards.
 static uint64_t go_on(uint64_t entries)
 {
-    struct model last = accepted_count > 0 ? accepted[accepted_count - 1] : model(0, 80 + below(60));
-    struct model m = model(last.size + 1 + (one_in(3) ? below(3) : 0), last.loss);
+    struct model last = model(0, 80 + below(60)), m;
     struct foldwig_path_result r;
-    if (m.loss > 0)
+    if (entries > 0)
+        last = model(get_item(buffer(0), 2, entries - 1), get_item(buffer(1), 8, entries - 1));
+    m = model(last.size + 1 + (one_in(3) ? below(3) : 0), last.loss);
+    if (m.loss > 0 && !one_in(3))
         m.loss -= 1 + below(m.loss < 6 ? m.loss : 6);
     if (one_in(10))
         m.size = one_in(2) ? last.size : some_number(65535);
@@ -230,7 +256,8 @@ static void check_winners(uint64_t entries)
     }
     expect(at == entries, "the path after a history has too many entries");
     if (accepted_count > 0)
-        expect(tests_made == 2 * accepted_count - 1 - entries, "the tests of a history are not 2N - 1 - M");
+        expect(tests_made == 2 * not_passed_over(accepted, accepted_count) - 1 - entries,
+               "the tests of a history are not 2N - 1 - M");
 }
 
 // A selection from the path gives the smallest of the cheapest accepted models.
@@ -489,7 +516,8 @@ static void meet_signals(void)
 
 // ---- Limits
 
-// A path of 4,096 entries is full: a model that drops none gets 9, one that drops some is taken.
+// A path of 4,096 entries is full: a model that drops none gets 9, one that drops some is taken, and one with the last loss is
+// passed over.
 static void full_paths(void)
 {
     make_models(4096, FALLING);
@@ -502,6 +530,9 @@ static void full_paths(void)
         put_models(0, 4096, places, places);
         compare_append(4096, last.size + 1, last.loss - 90);
         put_models(0, 4096, places, places);
+        compare_append(4096, last.size + 1, last.loss);
+        compare_append(4096, last.size, last.loss);
+        compare_append(4097, last.size + 1, last.loss);
         compare_append(4097, last.size + 1, last.loss - 1);
         compare_select(4096, 1, 65535);
         compare_select(4096, TOP, 1);
@@ -597,15 +628,212 @@ static void split_figures(void)
     expect(compare_split(1, 1, 1).refusal == 2, "513 samples");
 }
 
+// ---- Figures of flat stretches
+
+// Whether the buffer of the sizes and the next one hold so many entries, and zeros behind them up to an end.
+static int holds_path(int which, const struct model *path, size_t entries, size_t end)
+{
+    for (size_t i = 0; i < end; i++) {
+        struct model wanted = i < entries ? path[i] : model(0, 0);
+        if (get_item(buffer(which), 2, i) != wanted.size || get_item(buffer(which + 1), 8, i) != wanted.loss)
+            return 0;
+    }
+    return 1;
+}
+
+static int answers(struct foldwig_path_result r, uint64_t refusal, uint64_t entries, uint64_t tests)
+{
+    return r.refusal == refusal && r.entries == entries && r.tests == tests;
+}
+
+// Builds of models of which some are passed over, what they answer and the paths that they leave.
+static const struct {
+    const char *what;
+    size_t n;
+    struct model given[6];
+    uint64_t refusal;
+    size_t entries;
+    struct model path[3];
+    uint64_t tests;
+} flat_builds[] = {
+    {"the first model twice", 2, {{1, 5}, {1, 5}}, 6, 0, {{0, 0}}, 0},
+    {"the first loss twice", 2, {{1, 5}, {2, 5}}, 0, 1, {{1, 5}}, 0},
+    {"a loss of 0 twice", 2, {{1, 0}, {2, 0}}, 0, 1, {{1, 0}}, 0},
+    {"the largest numbers", 2, {{1, 17592186044416}, {65535, 17592186044416}}, 0, 1, {{1, 17592186044416}}, 0},
+    {"a passed-over model twice", 3, {{1, 5}, {2, 5}, {2, 5}}, 0, 1, {{1, 5}}, 0},
+    {"passed-over sizes that fall", 4, {{1, 5}, {4, 5}, {3, 5}, {2, 5}}, 0, 1, {{1, 5}}, 0},
+    {"a size below a passed-over one", 3, {{1, 5}, {3, 5}, {2, 4}}, 0, 2, {{1, 5}, {2, 4}}, 1},
+    {"a size that was passed over", 3, {{1, 5}, {3, 5}, {3, 4}}, 0, 2, {{1, 5}, {3, 4}}, 1},
+    {"a size above a passed-over one", 3, {{1, 5}, {3, 5}, {4, 4}}, 0, 2, {{1, 5}, {4, 4}}, 1},
+    {"the last entry's size and loss", 3, {{2, 5}, {4, 5}, {2, 5}}, 6, 0, {{0, 0}}, 0},
+    {"the last entry's size, a smaller loss", 3, {{2, 5}, {4, 5}, {2, 4}}, 6, 0, {{0, 0}}, 0},
+    {"a smaller size, the last entry's loss", 3, {{2, 5}, {4, 5}, {1, 5}}, 6, 0, {{0, 0}}, 0},
+    {"a size of 0, the last entry's loss", 2, {{2, 5}, {0, 5}}, 5, 0, {{0, 0}}, 0},
+    {"a larger loss after a passed-over model", 3, {{1, 5}, {3, 5}, {4, 6}}, 7, 0, {{0, 0}}, 0},
+    {"a larger loss below a passed-over size", 3, {{1, 5}, {3, 5}, {2, 6}}, 7, 0, {{0, 0}}, 0},
+    {"a larger loss at the last entry's size", 3, {{1, 5}, {3, 5}, {1, 6}}, 6, 0, {{0, 0}}, 0},
+    {"the size of the second entry again", 5, {{3, 9}, {7, 9}, {5, 9}, {4, 6}, {4, 6}}, 6, 0, {{0, 0}}, 0},
+    // The models 1, 2 and 3 with the losses 7, 4 and 0, each followed by one that is passed over: 1 test, then 2.
+    {"a test that fails", 6, {{1, 7}, {2, 7}, {2, 4}, {5, 4}, {3, 0}, {4, 0}}, 0, 2, {{1, 7}, {3, 0}}, 3},
+    // The losses 7, 4 and 2: 1 test, then 1.
+    {"tests that hold", 6, {{1, 7}, {9, 7}, {2, 4}, {8, 4}, {7, 4}, {3, 2}}, 0, 3, {{1, 7}, {2, 4}, {3, 2}}, 2},
+    // The losses 5, 4 and 3, so that the breakpoints are equal: 1 test, then 2.
+    {"a tie", 4, {{1, 5}, {2, 4}, {9, 4}, {3, 3}}, 0, 2, {{1, 5}, {3, 3}}, 3},
+};
+
+static void flat_build_figures(void)
+{
+    for (size_t i = 0; i < sizeof flat_builds / sizeof flat_builds[0]; i++) {
+        size_t n = flat_builds[i].n;
+        struct foldwig_path_result r;
+        memcpy(list, flat_builds[i].given, n * sizeof list[0]);
+        put_models(0, n, n, n);
+        fresh(2, 2 * (n + 1));
+        fresh(3, 8 * (n + 1));
+        r = compare_build();
+        expect(answers(r, flat_builds[i].refusal, flat_builds[i].entries, flat_builds[i].tests), flat_builds[i].what);
+        if (r.refusal != 0)
+            continue;
+        expect(holds_path(2, flat_builds[i].path, flat_builds[i].entries, n), flat_builds[i].what);
+        fresh(2, 2 * (n - 1));
+        fresh(3, 8 * n);
+        expect(answers(compare_build(), 9, 0, 0), "a build without a place for a model that is passed over");
+    }
+}
+
+// Builds n models of the list into as many places, or into one place less if its room is to be too short.
+static struct foldwig_path_result build_list(size_t n, size_t less)
+{
+    put_models(0, n, n, n);
+    fresh(2, 2 * (n - less));
+    fresh(3, 8 * (n - less));
+    return compare_build();
+}
+
+// 48 models with falling losses, 4,000 with the last one's, and 48 with falling losses again, whose sizes go on from the first
+// 48. Without the 4,000 they are 96 models of the sizes 1 to 96. If the loss of size k is the square of 96 - k, the breakpoints
+// fall: all models stay, and each but the first takes 1 test. If the loss of size k is 96 - k, the models are on a line: the
+// first and the last one stay, the second takes 1 test and each of the 94 behind it takes 2.
+static void long_flat_figures(void)
+{
+    static struct model path[96];
+    static const struct model line[] = {{1, 95}, {96, 0}}, two[] = {{1, 5}, {2, 4}};
+    for (int squares = 0; squares < 2; squares++) {
+        for (uint64_t i = 0; i < 96; i++)
+            path[i] = model(i + 1, squares ? (95 - i) * (95 - i) : 95 - i);
+        memcpy(list, path, 48 * sizeof list[0]);
+        for (uint64_t i = 0; i < 4000; i++)
+            list[48 + i] = model(49 + i, path[47].loss);
+        memcpy(list + 4048, path + 48, 48 * sizeof list[0]);
+        expect(answers(build_list(4096, 0), 0, squares ? 96 : 2, squares ? 95 : 189), "4,000 equal losses between others");
+        expect(holds_path(2, squares ? path : line, squares ? 96 : 2, 4096), "the path of 4,000 equal losses between others");
+    }
+    for (uint64_t i = 0; i < 4097; i++)
+        list[i] = model(i + 1, 5);
+    expect(answers(build_list(4000, 0), 0, 1, 0) && holds_path(2, list, 1, 4000), "4,000 equal losses");
+    expect(answers(build_list(4096, 0), 0, 1, 0) && holds_path(2, list, 1, 4096), "4,096 equal losses");
+    expect(answers(build_list(4096, 1), 9, 0, 0), "4,096 equal losses without a place for each model");
+    expect(answers(build_list(4097, 0), 2, 0, 0), "4,097 equal losses");
+    list[4095] = model(1, 5);
+    expect(answers(build_list(4096, 0), 6, 0, 0), "4,095 equal losses, and the first model again");
+    list[4095] = model(2, 4);
+    expect(answers(build_list(4096, 0), 0, 2, 1) && holds_path(2, two, 2, 4096), "4,095 equal losses, and size 2 with less");
+}
+
+// Appends to paths that fill their buffers, what they answer and the paths that they leave.
+static const struct {
+    const char *what;
+    size_t n;
+    struct model given[2], model;
+    uint64_t refusal;
+    size_t entries;
+    struct model path[2];
+    uint64_t tests;
+} full_appends[] = {
+    {"the only loss again", 1, {{1, 5}}, {2, 5}, 0, 1, {{1, 5}}, 0},
+    {"the only model again", 1, {{1, 5}}, {1, 5}, 6, 0, {{1, 5}}, 0},
+    {"a second entry", 1, {{1, 5}}, {2, 4}, 9, 0, {{1, 5}}, 0},
+    {"a loss above the only one", 1, {{1, 5}}, {2, 6}, 7, 0, {{1, 5}}, 0},
+    {"the last loss", 2, {{1, 7}, {2, 4}}, {3, 4}, 0, 2, {{1, 7}, {2, 4}}, 0},
+    {"the last loss, the largest size", 2, {{1, 7}, {2, 4}}, {65535, 4}, 0, 2, {{1, 7}, {2, 4}}, 0},
+    {"the last loss, too large a size", 2, {{1, 7}, {2, 4}}, {65536, 4}, 5, 0, {{1, 7}, {2, 4}}, 0},
+    {"the last loss, a size of 0", 2, {{1, 7}, {2, 4}}, {0, 4}, 5, 0, {{1, 7}, {2, 4}}, 0},
+    {"the last loss, the last size", 2, {{1, 7}, {2, 4}}, {2, 4}, 6, 0, {{1, 7}, {2, 4}}, 0},
+    {"the last loss, the first size", 2, {{1, 7}, {2, 4}}, {1, 4}, 6, 0, {{1, 7}, {2, 4}}, 0},
+    {"the first loss", 2, {{1, 7}, {2, 4}}, {3, 7}, 7, 0, {{1, 7}, {2, 4}}, 0},
+    {"a model that drops nothing", 2, {{1, 7}, {2, 4}}, {3, 2}, 9, 0, {{1, 7}, {2, 4}}, 0},
+    {"a model that drops an entry", 2, {{1, 7}, {2, 4}}, {3, 0}, 0, 2, {{1, 7}, {3, 0}}, 2},
+    {"the largest loss again", 1, {{1, 17592186044416}}, {2, 17592186044416}, 0, 1, {{1, 17592186044416}}, 0},
+    {"the last loss on a flat path", 2, {{1, 4}, {2, 4}}, {3, 4}, 8, 0, {{1, 4}, {2, 4}}, 0},
+};
+
+static void full_append_figures(void)
+{
+    for (size_t i = 0; i < sizeof full_appends / sizeof full_appends[0]; i++) {
+        size_t n = full_appends[i].n;
+        struct foldwig_path_result r;
+        memcpy(list, full_appends[i].given, n * sizeof list[0]);
+        put_models(0, n, n + one_in(2), n);
+        r = compare_append(n, full_appends[i].model.size, full_appends[i].model.loss);
+        expect(answers(r, full_appends[i].refusal, full_appends[i].entries, full_appends[i].tests), full_appends[i].what);
+        expect(holds_path(0, full_appends[i].path, n, n), full_appends[i].what);
+    }
+}
+
+// A history: an entry, one that is passed over, one of a smaller size than that, one that is passed over and one that drops.
+static void flat_history_figure(void)
+{
+    static const struct model path[] = {{1, 5}, {3, 0}};
+    fresh(0, 2 * 2);
+    fresh(1, 8 * 2);
+    expect(answers(compare_append(0, 1, 5), 0, 1, 0), "a first append");
+    expect(answers(compare_append(1, 3, 5), 0, 1, 0), "an append that is passed over");
+    expect(answers(compare_append(1, 2, 4), 0, 2, 1), "an append of a smaller size than the one passed over");
+    expect(answers(compare_append(2, 65535, 4), 0, 2, 0), "a second append that is passed over");
+    expect(answers(compare_append(2, 3, 0), 0, 2, 2) && holds_path(0, path, 2, 2), "an append that drops an entry");
+}
+
+// Appends to a path of 4,096 entries whose breakpoints fall, from 8,191 down to 3.
+static void full_path_figures(void)
+{
+    static struct model path[4096];
+    for (uint64_t i = 0; i < 4096; i++)
+        path[i] = model(i + 1, 100 + (4096 - i) * (4096 - i));
+    memcpy(list, path, sizeof path);
+    for (size_t places = 4096; places <= 4097; places++) {
+        put_models(0, 4096, places, places);
+        expect(answers(compare_append(4096, 4097, 101), 0, 4096, 0), "the last loss, to 4,096 entries");
+        expect(answers(compare_append(4096, 65535, 101), 0, 4096, 0), "the last loss with the largest size, to 4,096 entries");
+        expect(answers(compare_append(4096, 4096, 101), 6, 0, 0), "the last loss with the last size, to 4,096 entries");
+        expect(answers(compare_append(4096, 4097, 102), 7, 0, 0), "a larger loss, to 4,096 entries");
+        expect(answers(compare_append(4096, 4097, 100), 9, 0, 0), "a smaller loss that drops nothing, to 4,096 entries");
+        expect(holds_path(0, path, 4096, 4096), "4,096 entries after appends that leave them");
+        expect(answers(compare_append(4096, 4097, 98), 0, 4096, 2), "a smaller loss that drops an entry of 4,096");
+    }
+}
+
+static void flat_figures(void)
+{
+    flat_build_figures();
+    long_flat_figures();
+    full_append_figures();
+    flat_history_figure();
+    full_path_figures();
+}
+
 // ---- Threads
 
 static void build_at_limit(void)
 {
-    make_models(4096, TIED);
-    put_models(0, 4096, 4096, 4096);
-    fresh(2, 2 * 4096);
-    fresh(3, 8 * 4096);
-    expect(compare_build().refusal == 0, "a build of 4,096 models on a small stack");
+    for (int flat = 0; flat < 2; flat++) {
+        make_models(4096, TIED);
+        if (flat)
+            flatten(4096);
+        put_models(0, 4096, 4096, 4096);
+        fresh(2, 2 * 4096);
+        fresh(3, 8 * 4096);
+        expect(compare_build().refusal == 0, "a build of 4,096 models on a small stack");
+    }
 }
 
 static void append_at_limit(void)
@@ -732,6 +960,7 @@ int main(int argc, char **argv)
     map_buffers();
     path_figures();
     split_figures();
+    flat_figures();
     largest_numbers();
     meet_append();
     meet_build();

@@ -81,8 +81,8 @@ enum foldwig_refusal {
     FOLDWIG_BAD_LIMIT = 3,          /* max_segments is 0 or more than 32. */
     FOLDWIG_BAD_PENALTY = 4,        /* p is more than 2^44, or q is 0 or more than 65,535. */
     FOLDWIG_BAD_MODEL = 5,          /* A new model is out of range, or its size or its loss is lacking. */
-    FOLDWIG_SIZE_NOT_LARGER = 6,    /* A new size is not larger than the last one. */
-    FOLDWIG_LOSS_NOT_SMALLER = 7,   /* A new loss is not smaller than the last one. */
+    FOLDWIG_SIZE_NOT_LARGER = 6,    /* A new size is not larger than the last entry's. */
+    FOLDWIG_LOSS_LARGER = 7,        /* A new loss is larger than the last entry's. */
     FOLDWIG_BAD_PATH = 8,           /* The path lent is out of range or out of order, or shorter than its number of entries. */
     FOLDWIG_NO_ROOM = 9,            /* A buffer is too short. */
     FOLDWIG_EMPTY_PATH = 10,        /* There is no entry to select. */
@@ -94,7 +94,7 @@ enum foldwig_refusal {
 #define FOLDWIG_REFUSAL_TEXTS                                                                                                    \
     {                                                                                                                            \
         "accepted", "no samples or no models", "too many samples or models", "limit out of range", "penalty out of range",       \
-            "new model out of range or incomplete", "new size not larger than the last", "new loss not smaller than the last",   \
+            "new model out of range or incomplete", "new size not larger than the last", "new loss larger than the last",        \
             "path out of range, out of order or too long", "buffer too short", "path without entries",                           \
             "length not a whole number of items"                                                                                 \
     }
@@ -141,9 +141,10 @@ struct foldwig_split_result {
 };
 
 /*
- * Appends a model, size with loss, to the path of so many entries in sizes and losses (R12 to R16). It drops the entries that can
+ * Appends a model, size with loss, to the path of so many entries in sizes and losses (R10 to R16). It drops the entries that can
  * no longer be the cheapest, puts the model behind those that stay, and zeros the places from the new end to the old one.
- * All other places stay. 0 entries mean an empty path, whatever the buffers hold.
+ * All other places stay. 0 entries mean an empty path, whatever the buffers hold. A model with a larger size than the last
+ * entry's and the same loss is passed over: it is accepted with 0 tests, even if there is no place left, and no byte changes.
  * Refusals, in order: 11, 8, 5, 6, 7, 9. The buffers need places for the path as it is afterwards, dropped entries not counted.
  * Stack: 66,000 bytes.
  */
@@ -151,10 +152,13 @@ struct foldwig_path_result foldwig_append(uint8_t *sizes, size_t sizes_len, uint
                                           uint64_t size, uint64_t loss);
 
 /*
- * Builds the path of a list of models, as appending them one by one to an empty path would (R16, R17). sizes and losses hold the
+ * Builds the path of a list of models, as appending them one by one to an empty path would (R10, R17). sizes and losses hold the
  * models; the longer list tells how many there are, and a model without its size or its loss is a bad one. The path is written
  * to the front of path_sizes and path_losses, with zeros behind it as far as the number of models. All other places stay.
- * Refusals, in order: 11, 1, 2, then at the first bad model 5, 6 or 7, then 9. The buffers need a place for each model.
+ * A model with a larger size than the last entry so far and the same loss is passed over: it gets no test, and the path goes on
+ * without it.
+ * Refusals, in order: 11, 1, 2, then at the first bad model 5, 6 or 7, then 9. The buffers need a place for each model, passed
+ * over or not.
  * Stack: 132,000 bytes.
  */
 struct foldwig_path_result foldwig_build(const uint8_t *sizes, size_t sizes_len, const uint8_t *losses, size_t losses_len,

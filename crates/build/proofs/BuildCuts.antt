@@ -11,7 +11,7 @@ use lib.Seq.{take-all}
 use Rattle.path.specs.Model.{modelAt}
 use Rattle.path.specs.Refusal.{check, refusalOf, maxModels, roomFor}
 use Rattle.path.specs.Append.{pathRefused}
-use Rattle.path.proofs.Updates.{kept-few}
+use Rattle.path.proofs.Updates.{joined-few}
 use Rattle.path.proofs.Cuts.{le-or-lt, leb-take, by-checks-cut}
 use Rattle.path.proofs.PathCuts.{pathLonger, refused-cut, left-cut}
 use Rattle.build.specs.Build.{built, builtTests, countOf, listChecks, buildChecks, buildOf}
@@ -21,7 +21,7 @@ use Rattle.build.proofs.Cases.{build-refused, too-many}
 built-few : (a b : List ℕ) (i : ℕ) → length (built a b i) ≤ i
 unfolding built
 built-few a b zero = omega arith
-built-few a b (suc i) = omega (arith, kept-few (built a b i) (modelAt a b i) .0, built-few a b i)
+built-few a b (suc i) = omega (arith, joined-few (built a b i) (modelAt a b i) .0, built-few a b i)
 
 too-many-refused : (a b s l : List ℕ) → maxModels < countOf a b → buildOf a b s l ≡ pathRefused s l 2
 too-many-refused a b s l h =

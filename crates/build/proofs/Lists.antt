@@ -7,10 +7,11 @@ use native.Mathlib.Nat.{not-suc-le-zero}
 use native.Mathlib.Numerals.{add-one}
 use native.Mathlib.Omega.{arith}
 use lib.Dec.{leb}
-use lib.ListN.{length}
+use lib.ListN.{length, take}
 use borrow.Author.Tests.{leb-true}
-use Rattle.path.specs.Model.{Model, modelAt, pathOf}
-use Rattle.path.specs.Refusal.{check, refusalOf, roomFor, maxModels, modelChecks, sizeAbove, lossBelow}
+use Rattle.path.specs.Model.{modelAt, pathOf}
+use Rattle.path.specs.Update.{passedOver}
+use Rattle.path.specs.Refusal.{check, refusalOf, roomFor, maxModels, modelChecks}
 use Rattle.path.proofs.Checks.{numbered, check-fails, check-passes, passed, fails-early, passes-on, both-pass, room-parts}
 use Rattle.path.proofs.Order.{Passes, model-passes}
 use Rattle.build.specs.Build.{built, countOf, checksAt, listChecks, buildChecks}
@@ -21,7 +22,7 @@ module _ (a b : List ℕ) where
   pub lacks-value : (i : ℕ) → roomFor (i + 1) (length a ∷ length b ∷ []) ≡ false → refusalOf (checksAt a b i) ≡ 5
   lacks-value i h = check-fails (check 5 (roomFor (i + 1) (length a ∷ length b ∷ []))) _ h
 
-  pub lacks-nothing : (i : ℕ) → roomFor (i + 1) (length a ∷ length b ∷ []) ≡ true → refusalOf (checksAt a b i) ≡ refusalOf (modelChecks (pathOf a b i) (modelAt a b i))
+  pub lacks-nothing : (i : ℕ) → roomFor (i + 1) (length a ∷ length b ∷ []) ≡ true → refusalOf (checksAt a b i) ≡ refusalOf (modelChecks (built a b i) (modelAt a b i))
   lacks-nothing i h = check-passes (check 5 (roomFor (i + 1) (length a ∷ length b ∷ []))) _ h
 
   -- The checks of the models from i on.
@@ -55,18 +56,28 @@ module _ (a b : List ℕ) where
   each-passes : (n k : ℕ) → refusalOf (listChecks a b 0 n) ≡ 0 → k < n → refusalOf (checksAt a b k) ≡ 0
   each-passes n k h p = let e : 0 + k ≡ k = omega arith in subst (λ (j : ℕ). refusalOf (checksAt a b j) ≡ 0) e (later-passes n 0 k h p)
 
-  -- The path's last entry is the model before, so that a model is checked against either alike.
-  same-checks : (i : ℕ) (m : Model) → refusalOf (modelChecks (built a b i) m) ≡ refusalOf (modelChecks (pathOf a b i) m)
-  unfolding built pathOf sizeAbove lossBelow
-  same-checks zero m = refl
-  same-checks (suc i) m = refl
+  -- The last entry of the first i models is model j - 1, the last that was not passed over. There is none where j is 0.
+  abbrev pub LastEntered : ℕ → ℕ → Type 0
+  LastEntered i j = take 1 (built a b i) ≡ take 1 (pathOf a b j)
+
+  pub none-entered : LastEntered 0 0
+  unfolding built pathOf
+  none-entered = refl
+
+  pub entered-before : (i j : ℕ) → LastEntered i j → passedOver (built a b i) (modelAt a b i) ≡ true → LastEntered (i + 1) j
+  unfolding built
+  entered-before i j h f = rw (add-one i, f) h
+
+  pub entered-now : (i : ℕ) → passedOver (built a b i) (modelAt a b i) ≡ false → LastEntered (i + 1) (i + 1)
+  unfolding built pathOf
+  entered-now i f = rw (add-one i, f)
 
   -- Model k of a list without a bad one passes against the path before it.
   pub model-ready : (n k : ℕ) → refusalOf (listChecks a b 0 n) ≡ 0 → k < n → (k < length a) × (k < length b) × Passes (built a b k) (modelAt a b k)
   model-ready n k h p =
-      let e = passed (check 5 (roomFor (k + 1) (length a ∷ length b ∷ []))) (modelChecks (pathOf a b k) (modelAt a b k)) (omega arith) (each-passes n k h p) in
+      let e = passed (check 5 (roomFor (k + 1) (length a ∷ length b ∷ []))) (modelChecks (built a b k) (modelAt a b k)) (omega arith) (each-passes n k h p) in
       let f = room-parts (k + 1) (length a ∷ length b ∷ []) (e .0) in
-      (omega (arith, f .0), omega (arith, f .1 .0), model-passes (built a b k) (modelAt a b k) (same-checks k (modelAt a b k) ∙ e .1))
+      (omega (arith, f .0), omega (arith, f .1 .0), model-passes (built a b k) (modelAt a b k) (e .1))
 
   pub list-numbered : (m i : ℕ) → numbered (listChecks a b i m) ≡ true
   unfolding listChecks

@@ -4,30 +4,30 @@ use mathlib.Core.List.{List, [], _∷_, _++_}
 use Prim.Native.Nat.{ℕ, zero, suc, _+_, max}
 use lib.Dec.{leb}
 use lib.ListN.{length}
-use Rattle.path.specs.Model.{Model, modelAt, pathOf}
-use Rattle.path.specs.Update.{extended, testsMade}
+use Rattle.path.specs.Model.{Model, modelAt}
+use Rattle.path.specs.Update.{joined, testsFor}
 use Rattle.path.specs.Refusal.{Check, check, byChecks, roomFor, modelChecks, maxModels}
 use Rattle.path.specs.Append.{PathOutcome, pathRefused, pathLeft}
 
 -- The path of the first i models.
 unfoldable pub built : List ℕ → List ℕ → ℕ → List Model
 built sizes losses zero = []
-built sizes losses (suc i) = extended (built sizes losses i) (modelAt sizes losses i)
+built sizes losses (suc i) = joined (built sizes losses i) (modelAt sizes losses i)
 
 -- The tests made for it.
 unfoldable pub builtTests : List ℕ → List ℕ → ℕ → ℕ
 builtTests sizes losses zero = 0
-builtTests sizes losses (suc i) = builtTests sizes losses i + testsMade (built sizes losses i) (modelAt sizes losses i)
+builtTests sizes losses (suc i) = builtTests sizes losses i + testsFor (built sizes losses i) (modelAt sizes losses i)
 
 -- The number of models is that of the longer list.
 abbrev pub countOf : List ℕ → List ℕ → ℕ
 countOf sizes losses = max (length sizes) (length losses)
 
 -- The checks of model i: 5 where one of the lists ends before it, so that its size or its loss is lacking, then those of a new model
--- after the one before it.
+-- after the path of the models before it.
 abbrev pub checksAt : List ℕ → List ℕ → ℕ → List Check
 checksAt sizes losses i =
-    check 5 (roomFor (i + 1) (length sizes ∷ length losses ∷ [])) ∷ modelChecks (pathOf sizes losses i) (modelAt sizes losses i)
+    check 5 (roomFor (i + 1) (length sizes ∷ length losses ∷ [])) ∷ modelChecks (built sizes losses i) (modelAt sizes losses i)
 
 -- The checks of m models from model i on. The first bad model decides.
 unfoldable pub listChecks : List ℕ → List ℕ → ℕ → ℕ → List Check

@@ -1,5 +1,5 @@
 // A path from a list of sizes and a list of losses. Each model is pushed on the path in turn by the scan that an append uses, so
-// that the whole is linear in the number of models.
+// that the whole is linear in the number of models. One whose loss equals the last entry's is passed over.
 
 ghost use mathlib.Core.Path.{_≡_};
 ghost use Prim.Native.Nat.{max};
@@ -13,19 +13,24 @@ use path::MAX_MODELS;
 use path::PathResult;
 use path::tally;
 
-// The refusal of the first of so many models that is bad: 5, 6 or 7, or 0.
+// The refusal of the first of so many models that is bad: 5, 6 or 7, or 0. A model is judged by the last entry before it. That is the
+// last model that was not passed over, the last of those entered.
 fn list_refusal(sizes: &[u64], losses: &[u64], count: usize) -> u64
     ensures { λ r. ⌜ r ≡ refusalOf (listChecks (now (sizes .entry)) (now (losses .entry)) 0 count) ⌝ }
 {
     let mut i = 0;
+    let mut entered = 0;
     while i < count {
         let next = i + 1;
         if !path::has_room(next, sizes.len(), losses.len()) {
             return 5;
         }
-        let refusal = path::model_refusal(sizes, losses, i, sizes[i], losses[i]);
+        let refusal = path::model_refusal(sizes, losses, entered, sizes[i], losses[i]);
         if refusal != 0 {
             return refusal;
+        }
+        if !path::passed_over(losses, entered, losses[i]) {
+            entered = next;
         }
         i = next;
     }
@@ -76,12 +81,14 @@ fn fill(sizes: &[u64], losses: &[u64], path_sizes: &mut [u64], path_losses: &mut
     while i < sizes.len() {
         let size = sizes[i];
         let loss = losses[i];
-        let found = path::try_model(path_sizes, path_losses, entries, size, loss, tests);
-        let kept = found.entries;
-        path_sizes[kept] = size;
-        path_losses[kept] = loss;
-        entries = kept + 1;
-        tests = found.tests;
+        if !path::passed_over(path_losses, entries, loss) {
+            let found = path::try_model(path_sizes, path_losses, entries, size, loss, tests);
+            let kept = found.entries;
+            path_sizes[kept] = size;
+            path_losses[kept] = loss;
+            entries = kept + 1;
+            tests = found.tests;
+        }
         i += 1;
     }
     Kept {

@@ -1,8 +1,8 @@
 -- The path of a signal is sound for the sizes that were appended, and every other size is skipped for one of them.
-use mathlib.Core.Path.{_≡_, refl, ap, sym, subst}
-use mathlib.Core.Bool.{Bool, true, false, cond}
-use mathlib.Core.Logic.{_⊎_, inl, inr, ⊎-elim}
-use mathlib.Core.List.{List, [], _∷_, List·Memᴰ as Mem, List·Memᴰ·head as first, List·Memᴰ·tail as later, List·Memᴰ·cases-cons as first-or-later, List·Memᴰ·not-nil as not-in-none}
+use mathlib.Core.Path.{_≡_, refl, ap, sym}
+use mathlib.Core.Bool.{Bool, true, false, cond, false≢true}
+use mathlib.Core.Logic.{⊎-elim}
+use mathlib.Core.List.{List, [], _∷_, List·Memᴰ as Mem, List·Memᴰ·head as first, List·Memᴰ·tail as later}
 use Prim.Native.Nat.{ℕ, zero, suc, _<_}
 use native.Mathlib.Nat.{eq-or-lt-of-le, not-suc-le-zero}
 use native.Mathlib.Omega.{arith}
@@ -10,10 +10,9 @@ use lib.IntN.{ℤ}
 use borrow.Author.Tests.{ltb-true, ltb-false}
 use Rattle.path.specs.Model.{Model}
 use Rattle.path.specs.Update.{extended}
-use Rattle.path.specs.Refusal.{lossBelow}
 use Rattle.path.proofs.Order.{After}
-use Rattle.hull.proofs.Winners.{Sound, sound-none, sound-extended, Skipped, TriedOrSkipped}
-use Rattle.signal.specs.Signal.{modelOf, modelsUpTo, signalPath}
+use Rattle.hull.proofs.Winners.{Sound, sound-none, sound-extended, Skipped, TriedOrSkipped, none-listed, tried-listed, skipped-listed, skipped-for-last}
+use Rattle.signal.specs.Signal.{modelOf, modelsUpTo, lossBelow, signalPath}
 use Rattle.signal.proofs.Paths.{Sized, path-sized}
 
 -- The models of the sizes up to k that were appended, the last one first.
@@ -40,37 +39,23 @@ path-sound xs (suc k) = by-test (lossBelow (signalPath xs k) (modelOf xs k)) ref
     by-test false e h = h
 
 -- A size is skipped for the last entry.
-skipped-for-last : (xs : List ℤ) (k : ℕ) (st models : List Model) → Sized xs k st → Sound st models → lossBelow st (modelOf xs k) ≡ false → Skipped models (modelOf xs k)
+size-skipped : (xs : List ℤ) (k : ℕ) (st models : List Model) → Sized xs k st → Sound st models → lossBelow st (modelOf xs k) ≡ false → Skipped models (modelOf xs k)
 unfolding lossBelow
-skipped-for-last xs k [] models z s h = absurd (subst cell (sym h) tt)
-  where
-    cell : Bool → Type 0
-    cell true = ⊥
-    cell false = Unit {0}
-skipped-for-last xs k (e ∷ r) models z s h =
+size-skipped xs k [] models z s h = absurd (false≢true (sym h))
+size-skipped xs k (e ∷ r) models z s h =
     let f : e .size ≡ suc (z .0 .0) = ap (λ (m : Model). m .size) (z .0 .2) in
-    record { other = e; listed = s .entries e (first refl); smaller = omega (arith, z .0 .1); loses-no-more = ltb-false _ _ h }
-
-skipped-more : (models : List Model) (m z : Model) → Skipped models z → Skipped (m ∷ models) z
-skipped-more models m z k = record { other = k .other; listed = later (k .listed); smaller = k .smaller; loses-no-more = k .loses-no-more }
+    skipped-for-last e r models s (modelOf xs k) (omega (arith, z .0 .1)) (ltb-false _ _ h)
 
 pub tried-or-skipped : (xs : List ℤ) (k : ℕ) → TriedOrSkipped (appended xs k) (modelsUpTo xs k)
 unfolding appended modelsUpTo
-tried-or-skipped xs zero = record { listed = λ z i. i; cases = λ z i. absurd (not-in-none i) }
+tried-or-skipped xs zero = none-listed
 tried-or-skipped xs (suc k) = by-test (lossBelow (signalPath xs k) (modelOf xs k)) refl (tried-or-skipped xs k)
   where
     by-test : (b : Bool) → lossBelow (signalPath xs k) (modelOf xs k) ≡ b → TriedOrSkipped (appended xs k) (modelsUpTo xs k)
         → TriedOrSkipped (cond b (modelOf xs k ∷ appended xs k) (appended xs k)) (modelOf xs k ∷ modelsUpTo xs k)
-    by-test true e h =
-        record {
-          listed = λ z i. ⊎-elim first (λ j. later (h .listed z j)) (first-or-later i);
-          cases = λ z i. ⊎-elim (λ q. inl (first q)) (λ j. ⊎-elim (λ t. inl (later t)) (λ s. inr (skipped-more (appended xs k) (modelOf xs k) z s)) (h .cases z j)) (first-or-later i);
-        }
+    by-test true e h = tried-listed (appended xs k) (modelsUpTo xs k) (modelOf xs k) h
     by-test false e h =
-        record {
-          listed = λ z i. later (h .listed z i);
-          cases = λ z i. ⊎-elim (λ (q : z ≡ modelOf xs k). inr (rw q (skipped-for-last xs k (signalPath xs k) (appended xs k) (path-sized xs k) (path-sound xs k) e))) (h .cases z) (first-or-later i);
-        }
+        skipped-listed (appended xs k) (modelsUpTo xs k) (modelOf xs k) h (size-skipped xs k (signalPath xs k) (appended xs k) (path-sized xs k) (path-sound xs k) e)
 
 -- Every size up to k is among the models.
 pub size-listed : (xs : List ℤ) (k m : ℕ) → m < k → Mem (modelOf xs m) (modelsUpTo xs k)

@@ -9,16 +9,18 @@ use native.Mathlib.Omega.{arith}
 use lib.ListN.{length}
 use borrow.Author.Tests.{ne-eqb}
 use Rattle.path.specs.Model.{Model}
+use Rattle.path.specs.Update.{tried}
 use Rattle.path.specs.Refusal.{refusalOf}
 use Rattle.path.proofs.Paths.{length-path}
+use Rattle.path.proofs.Order.{same-passed-over}
 use Rattle.path.proofs.Held.{held-length}
 use Rattle.build.specs.Build.{built, builtTests, countOf, buildChecks, buildOf}
 use Rattle.build.proofs.Lists.{buildable}
 use Rattle.build.proofs.Cases.{build-refused, build-accepted}
 use Rattle.hull.specs.History.{Start, emptyState, afterCall, modelsOf, begin, appends, history, pathAt}
 use Rattle.hull.specs.Claims.{modelsFrom, HistoryClaim, FallingClaim, NeverEightClaim, SelectClaim}
-use Rattle.hull.proofs.Winners.{none-skipped, winners-with-skipped}
-use Rattle.hull.proofs.Counts.{counted-some, some-entries}
+use Rattle.hull.proofs.Winners.{winners-with-skipped}
+use Rattle.hull.proofs.Counts.{counted-some, some-entries, tried-some}
 use Rattle.hull.proofs.Selections.{always-selects-smallest}
 use Rattle.hull.proofs.Orders.{never-eight}
 use Rattle.hull.proofs.Appends.{Standing, standing-empty, standing-left, standing-appends}
@@ -37,8 +39,7 @@ standing-built a b s l e =
     rw (← build-accepted a b s l e, zero-add (builtTests a b n))
     (standing-left path (modelsOf a b) (builtTests a b n) n s l (held .order)
     (omega (arith, held-length path s l (x .sizes) (x .losses) (x .entries) n held, held .most, f .0, f .1 .few))
-    (rw (← (held .is), ← (r .models)) (h .sound))
-    (rw (← (held .is), ← (r .models), ← (r .holds .counted)) (h .counted)))
+    (rw (← (held .is), ← (r .models), ← (r .holds .counted)) (h .stands)))
 
 -- However a history begins, its state stands.
 standing-begin : (start : Start) (s l : List ℕ) → Standing (begin start s l)
@@ -57,13 +58,14 @@ standing start ms s l = standing-appends ms (begin start s l) (standing-begin st
 pub history-claim : HistoryClaim
 history-claim start ms s l =
     let x = history start ms s l in
-    let h = standing start ms s l in (
-      winners-with-skipped (pathAt x) (x .models) (x .models) (h .sound) (none-skipped (x .models)),
-      counted-some (pathAt x) (x .tests) (length (x .models)) (h .counted),
+    let h = standing start ms s l .stands in (
+      winners-with-skipped (pathAt x) (tried (x .models)) (x .models) (h .sound) (h .listed),
+      λ some. counted-some (pathAt x) (x .tests) (length (tried (x .models))) (h .counted) (tried-some (x .models) some),
+      same-passed-over (pathAt x) (tried (x .models)) (h .judged),
     )
 
 pub falling-claim : FallingClaim
-falling-claim start ms s l = standing start ms s l .sound .falling
+falling-claim start ms s l = standing start ms s l .stands .sound .falling
 
 pub never-eight-claim : NeverEightClaim
 never-eight-claim start ms s l =
@@ -73,5 +75,6 @@ pub select-claim : SelectClaim
 select-claim start ms s l some =
     let x = history start ms s l in
     let h = standing start ms s l in
-    let entries = some-entries (pathAt x) (x .tests) (length (x .models)) (h .counted) some in
-    always-selects-smallest (x .sizes) (x .losses) (x .entries) (x .models) (x .models) (h .valid) (h .sound) (none-skipped (x .models)) (omega (arith, length-path (x .sizes) (x .losses) (x .entries)))
+    let few = tried (x .models) in
+    let entries = some-entries (pathAt x) (x .tests) (length few) (h .stands .counted) (tried-some (x .models) some) in
+    always-selects-smallest (x .sizes) (x .losses) (x .entries) few (x .models) (h .valid) (h .stands .sound) (h .stands .listed) (omega (arith, length-path (x .sizes) (x .losses) (x .entries)))

@@ -6,8 +6,8 @@ use mathlib.Core.List.{List, [], _∷_, List·Memᴰ}
 use Prim.Native.Nat.{ℕ, zero, suc, _+_, _*_, _-_, _≤_, _<_}
 use lib.ListN.{length}
 use Rattle.path.specs.Model.{Model, model, modelAt, pathOf}
-use Rattle.path.specs.Update.{Fraction, below, breakpoint, pathBreakpoints, holds, kept}
-use Rattle.path.specs.Refusal.{follows}
+use Rattle.path.specs.Update.{Fraction, below, breakpoint, pathBreakpoints, holds, kept, passedOver, tried}
+use Rattle.path.specs.Refusal.{follows, inRange, validPath, sizeAbove}
 use Rattle.path.specs.Append.{PathOutcome, appendChecks, appendOf}
 use Rattle.build.specs.Build.{countOf, buildChecks, buildOf}
 use Rattle.select.specs.Penalty.{validPenalty, cost}
@@ -42,9 +42,17 @@ Falling (e ∷ []) = Unit {0}
 Falling (f ∷ e ∷ []) = Unit {0}
 Falling (f ∷ e ∷ d ∷ r) = (below (breakpoint e f) (breakpoint d e) ≡ true) × Falling (e ∷ d ∷ r)
 
--- Of N accepted models M are entries, and the tests made are 2 N - 1 - M.
+-- Of N accepted models that were not passed over M are entries, and the tests made are 2 N - 1 - M.
 abbrev pub TestsCounted : State → Type 0
-TestsCounted x = 1 ≤ length (x .models) → x .tests + length (pathAt x) + 1 ≡ 2 * length (x .models)
+TestsCounted x = 1 ≤ length (x .models) → x .tests + length (pathAt x) + 1 ≡ 2 * length (tried (x .models))
+
+-- Whether a model is passed over after a state goes by the models that were not: the last of them is the last entry.
+abbrev pub JudgedByTried : State → Type 0
+JudgedByTried x = (m : Model) → passedOver (pathAt x) m ≡ passedOver (tried (x .models)) m
+
+-- What demand 3 says of a state that calls on a path leave.
+abbrev pub PathDemand : State → Type 0
+PathDemand x = PathOfWinners (pathAt x) (x .models) × TestsCounted x × JudgedByTried x
 
 -- A property holds of the state that any history leaves.
 abbrev pub AfterEveryHistory : (State → Type 0) → Type 0
@@ -52,7 +60,7 @@ AfterEveryHistory P = (start : Start) (ms : List Model) (s l : List ℕ) → P (
 
 -- Demand 3 on a path, in one claim on the whole history.
 abbrev pub HistoryClaim : Type 0
-HistoryClaim = AfterEveryHistory (λ x. PathOfWinners (pathAt x) (x .models) × TestsCounted x)
+HistoryClaim = AfterEveryHistory PathDemand
 
 -- The breakpoints fall along every path.
 abbrev pub FallingClaim : Type 0
@@ -154,11 +162,19 @@ pub record Updated (s l : List ℕ) (n : ℕ) (m : Model) (I : ℕ) (o : PathOut
   pub breakpoints-are : pathBreakpoints (pathOf (o .sizes) (o .losses) (I + 1))
       ≡ breakpoint (modelAt s l (I - 1)) m ∷ pathBreakpoints (pathOf s l I)
 
--- (11) to (14) hold on every accepted append to a path that has an entry.
+-- (11) to (14) hold on every accepted append, to a path that has an entry, of a model that is not passed over.
 abbrev pub UpdateClaim : Type 0
 UpdateClaim =
-    (s l : List ℕ) (n : ℕ) (m : Model) → appendOf s l (suc n) m .refusal ≡ 0
+    (s l : List ℕ) (n : ℕ) (m : Model) → passedOver (pathOf s l (suc n)) m ≡ false → appendOf s l (suc n) m .refusal ≡ 0
     → Updated s l n m (length (kept (pathOf s l (suc n)) m)) (appendOf s l (suc n) m)
+
+-- A model that is passed over and that neither 8 nor 5 nor 6 refuses is accepted after no test, whatever the room, and path and
+-- buffers are as they were.
+abbrev pub PassedOverClaim : Type 0
+PassedOverClaim =
+    (s l : List ℕ) (n : ℕ) (m : Model) → validPath s l n ≡ true → inRange m ≡ true → sizeAbove (pathOf s l n) m ≡ true
+    → passedOver (pathOf s l n) m ≡ true
+    → appendOf s l n m ≡ record { refusal = 0; entries = n; tests = 0; sizes = s; losses = l }
 
 -- Each call on a path answers its checks in order, and a refused one gives its number, zeros, and the buffers as they were.
 pub record PathRefusals : Type 0 where

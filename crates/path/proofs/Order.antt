@@ -1,5 +1,5 @@
 -- What a path that is in order and a model that passes its checks tell of the numbers, and the checks of a model by cases.
-use mathlib.Core.Path.{_≡_, refl}
+use mathlib.Core.Path.{_≡_, refl, ap, sym, _∙_}
 use mathlib.Core.Bool.{true, false, _&&_}
 use mathlib.Core.Logic.{⊎-elim}
 use mathlib.Core.List.{List, [], _∷_}
@@ -7,10 +7,11 @@ use Prim.Native.Nat.{ℕ, zero, suc, _^_, _≤_, _<_}
 use native.Mathlib.Nat.{eq-or-lt-of-le}
 use native.Mathlib.Omega.{arith}
 use lib.Dec.{ltb, leb}
-use lib.ListN.{getD, length}
-use borrow.Author.Tests.{ltb-true, leb-true}
+use lib.ListN.{getD, length, take}
+use borrow.Author.Tests.{ltb-true, leb-true, le-leb, eqb-true, eqb-false}
 use Rattle.path.specs.Model.{Model, modelAt, pathOf}
-use Rattle.path.specs.Refusal.{maxSize, maxLoss, maxModels, inRange, follows, ordered, pathRoom, validPath, sizeAbove, lossBelow, check, modelChecks, refusalOf}
+use Rattle.path.specs.Update.{passedOver}
+use Rattle.path.specs.Refusal.{maxSize, maxLoss, maxModels, inRange, follows, ordered, pathRoom, validPath, sizeAbove, lossNotAbove, check, modelChecks, refusalOf}
 use Rattle.path.specs.Inner.{Scannable}
 use Rattle.path.proofs.Checks.{both, passed, check-fails, room-parts, room-whole}
 
@@ -110,24 +111,54 @@ valid-whole s l n h =
 pub record Passes (st : List Model) (m : Model) : Type 0 where
   pub range : inRange m ≡ true
   pub size : sizeAbove st m ≡ true
-  pub loss : lossBelow st m ≡ true
+  pub loss : lossNotAbove st m ≡ true
 
 pub model-passes : (st : List Model) (m : Model) → refusalOf (modelChecks st m) ≡ 0 → Passes st m
 model-passes st m h =
-    let a = passed (check 5 (inRange m)) (check 6 (sizeAbove st m) ∷ check 7 (lossBelow st m) ∷ []) (omega arith) h in
-    let b = passed (check 6 (sizeAbove st m)) (check 7 (lossBelow st m) ∷ []) (omega arith) (a .1) in
-    let d = passed (check 7 (lossBelow st m)) [] (omega arith) (b .1) in
+    let a = passed (check 5 (inRange m)) (check 6 (sizeAbove st m) ∷ check 7 (lossNotAbove st m) ∷ []) (omega arith) h in
+    let b = passed (check 6 (sizeAbove st m)) (check 7 (lossNotAbove st m) ∷ []) (omega arith) (a .1) in
+    let d = passed (check 7 (lossNotAbove st m)) [] (omega arith) (b .1) in
     record { range = a .0; size = b .0; loss = d .0 }
 
 pub model-accepted : (st : List Model) (m : Model) → Passes st m → refusalOf (modelChecks st m) ≡ 0
 unfolding refusalOf
 model-accepted st m p = rw (p .range, p .size, p .loss)
 
--- Then it comes after the last entry.
-pub passes-after : (path : List Model) (m : Model) → Passes path m → After path m
-unfolding sizeAbove lossBelow
-passes-after [] m p = tt
-passes-after (e ∷ r) m p = record { sizes = ltb-true _ _ (p .size); losses = ltb-true _ _ (p .loss) }
+-- Its size is above the last entry's, and its loss is not.
+pub passes-near : (e : Model) (r : List Model) (m : Model) → Passes (e ∷ r) m → (e .size < m .size) × (m .loss ≤ e .loss)
+unfolding sizeAbove lossNotAbove
+passes-near e r m p = (ltb-true _ _ (p .size), leb-true _ _ (p .loss))
+
+-- Where it is not passed over, it comes after the last entry.
+pub passes-after : (path : List Model) (m : Model) → Passes path m → passedOver path m ≡ false → After path m
+unfolding passedOver
+passes-after [] m p f = tt
+passes-after (e ∷ r) m p f =
+    let n = passes-near e r m p in record { sizes = n .0; losses = omega (arith, n .1, eqb-false (m .loss) (e .loss) f) }
+
+-- A model that is passed over passes the check of its loss.
+pub passed-not-above : (path : List Model) (m : Model) → passedOver path m ≡ true → lossNotAbove path m ≡ true
+unfolding passedOver lossNotAbove
+passed-not-above [] m f = refl
+passed-not-above (e ∷ r) m f = le-leb (m .loss) (e .loss) (omega (arith, eqb-true (m .loss) (e .loss) f))
+
+-- A model is judged by the last entry alone.
+module _ (a b : List Model) (same : take 1 a ≡ take 1 b) (m : Model) where
+  pub same-checks : refusalOf (modelChecks a m) ≡ refusalOf (modelChecks b m)
+  unfolding sizeAbove lossNotAbove
+  same-checks = by-last a ∙ ap (λ (r : List Model). refusalOf (modelChecks r m)) same ∙ sym (by-last b)
+    where
+      by-last : (path : List Model) → refusalOf (modelChecks path m) ≡ refusalOf (modelChecks (take 1 path) m)
+      by-last [] = refl
+      by-last (e ∷ r) = refl
+
+  pub same-passed-over : passedOver a m ≡ passedOver b m
+  unfolding passedOver
+  same-passed-over = by-last a ∙ ap (λ (r : List Model). passedOver r m) same ∙ sym (by-last b)
+    where
+      by-last : (path : List Model) → passedOver path m ≡ passedOver (take 1 path) m
+      by-last [] = refl
+      by-last (e ∷ r) = refl
 
 -- What the input of an append tells that 8, 5, 6 and 7 let pass.
 pub record Acceptable (s l : List ℕ) (n : ℕ) (m : Model) : Type 0 where
@@ -146,7 +177,9 @@ scannable s l zero m tests z h t = absurd (z refl)
 scannable s l (suc n) m tests z h t =
     let v = h .valid in
     let f = v .few in
-    let b = passes-after (modelAt s l n ∷ pathOf s l n) m (h .passes) in
+    let b = passes-near (modelAt s l n) (pathOf s l n) m (h .passes) in
+    let bigger = b .0 in
+    let not-worse = b .1 in
     let w = within m (h .passes .range) in
     record {
       some = omega arith;
@@ -172,10 +205,10 @@ out-of-range st m h = check-fails (check 5 (inRange m)) _ h
 
 -- The first model in range is accepted.
 pub first-model : (s l : List ℕ) (n : ℕ) (m : Model) → inRange m ≡ true → n ≡ 0 → refusalOf (modelChecks (pathOf s l n) m) ≡ 0
-unfolding pathOf sizeAbove lossBelow refusalOf
+unfolding pathOf sizeAbove lossNotAbove refusalOf
 first-model s l n m h e = rw (e, h)
 
 -- After a path of entries 0 to b a model in range is refused by its size, then by its loss.
-pub later-model : (s l : List ℕ) (n b : ℕ) (m : Model) → inRange m ≡ true → n ≡ suc b → refusalOf (modelChecks (pathOf s l n) m) ≡ refusalOf (check 6 (ltb (getD s b 0) (m .size)) ∷ check 7 (ltb (m .loss) (getD l b 0)) ∷ [])
-unfolding pathOf sizeAbove lossBelow refusalOf
+pub later-model : (s l : List ℕ) (n b : ℕ) (m : Model) → inRange m ≡ true → n ≡ suc b → refusalOf (modelChecks (pathOf s l n) m) ≡ refusalOf (check 6 (ltb (getD s b 0) (m .size)) ∷ check 7 (leb (m .loss) (getD l b 0)) ∷ [])
+unfolding pathOf sizeAbove lossNotAbove refusalOf
 later-model s l n b m h e = rw (e, h)

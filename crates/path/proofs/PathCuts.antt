@@ -9,13 +9,13 @@ use native.Mathlib.Omega.{arith}
 use lib.ListN.{length, take, drop, length-take, take-append-drop}
 use lib.Seq.{getD-take}
 use Rattle.path.specs.Model.{Model, pathOf, sizesOf, lossesOf}
-use Rattle.path.specs.Update.{kept, extended, testsMade}
+use Rattle.path.specs.Update.{joined, testsFor}
 use Rattle.path.specs.Refusal.{check, refusalOf, maxModels, ordered, pathRoom, validPath, modelChecks}
 use Rattle.path.specs.Append.{PathOutcome, pathRefused, pathLeft, appendChecks, appendOf}
 use Rattle.path.proofs.Paths.{length-path, length-values, path-agrees}
 use Rattle.path.proofs.Checks.{room-parts, room-whole}
 use Rattle.path.proofs.Order.{valid-parts}
-use Rattle.path.proofs.Updates.{kept-few}
+use Rattle.path.proofs.Updates.{joined-few}
 use Rattle.path.proofs.Cases.{appendable}
 use Rattle.path.proofs.Cuts.{agree, le-or-lt, overwritten-to-cut, same-cond, by-checks-cut}
 
@@ -77,24 +77,24 @@ module _ (c : ℕ) (s l : List ℕ) (n : ℕ) (m : Model) (enough : (n < c) ⊎ 
   same-append : refusalOf (appendChecks (take c s) (take c l) n m) ≡ refusalOf (appendChecks s l n m)
   unfolding refusalOf
   same-append =
-      ap (λ (b : Bool). refusalOf (check 8 b ∷ (modelChecks (pathOf (take c s) (take c l) n) m ++ (check 9 (pathRoom (take c s) (take c l) (length (extended (pathOf (take c s) (take c l) n) m))) ∷ [])))) (valid-cut c s l n (near n (omega arith)))
+      ap (λ (b : Bool). refusalOf (check 8 b ∷ (modelChecks (pathOf (take c s) (take c l) n) m ++ (check 9 (pathRoom (take c s) (take c l) (length (joined (pathOf (take c s) (take c l) n) m))) ∷ [])))) (valid-cut c s l n (near n (omega arith)))
       ∙ same-cond (validPath s l n) _ _ 8
       (λ v.
       let path = path-cut c s l n (few-within c s l n (near n (omega arith)) (valid-parts s l n v .few)) in
-      let room = room-cut c s l (length (extended (pathOf s l n) m)) (near _ (omega (arith, kept-few (pathOf s l n) m .0, length-path s l n))) in
-      (λ i. refusalOf (modelChecks (path i) m ++ (check 9 (pathRoom (take c s) (take c l) (length (extended (path i) m))) ∷ [])))
+      let room = room-cut c s l (length (joined (pathOf s l n) m)) (near _ (omega (arith, joined-few (pathOf s l n) m .0, length-path s l n))) in
+      (λ i. refusalOf (modelChecks (path i) m ++ (check 9 (pathRoom (take c s) (take c l) (length (joined (path i) m))) ∷ [])))
       ∙ (λ i. refusalOf (modelChecks (pathOf s l n) m ++ (check 9 (room i) ∷ []))))
 
   append-left : refusalOf (appendChecks s l n m) ≡ 0
-      → pathLeft (extended (pathOf s l n) m) (testsMade (pathOf s l n) m) n s l ≡ pathLonger (drop c s) (drop c l) (pathLeft (extended (pathOf (take c s) (take c l) n) m) (testsMade (pathOf (take c s) (take c l) n) m) n (take c s) (take c l))
+      → pathLeft (joined (pathOf s l n) m) (testsFor (pathOf s l n) m) n s l ≡ pathLonger (drop c s) (drop c l) (pathLeft (joined (pathOf (take c s) (take c l) n) m) (testsFor (pathOf (take c s) (take c l) n) m) n (take c s) (take c l))
   append-left e =
       let a = appendable s l n m e in
       let w = few-within c s l n (near n (omega arith)) (a .input .valid .few) in
       let path = sym (path-cut c s l n w) in
       let few = a .room .1 .1 .0 in
-      let fits : length (kept (pathOf s l n) m) < c = ⊎-elim (λ x. omega (arith, kept-few (pathOf s l n) m .0, length-path s l n)) (λ x. omega arith) enough in
-      left-cut (extended (pathOf s l n) m) (testsMade (pathOf s l n) m) n c s l fits w
-      ∙ (λ i. pathLonger (drop c s) (drop c l) (pathLeft (extended (path i) m) (testsMade (path i) m) n (take c s) (take c l)))
+      let fits : length (joined (pathOf s l n) m) ≤ c = ⊎-elim (λ x. omega (arith, joined-few (pathOf s l n) m .0, length-path s l n)) (λ x. omega arith) enough in
+      left-cut (joined (pathOf s l n) m) (testsFor (pathOf s l n) m) n c s l fits w
+      ∙ (λ i. pathLonger (drop c s) (drop c l) (pathLeft (joined (path i) m) (testsFor (path i) m) n (take c s) (take c l)))
 
   pub append-cut : appendOf s l n m ≡ pathLonger (drop c s) (drop c l) (appendOf (take c s) (take c l) n m)
   unfolding appendOf

@@ -4,7 +4,7 @@ use mathlib.Core.List.{List, [], _∷_, _++_}
 use Prim.Native.Nat.{ℕ}
 use lib.ListN.{length}
 use Rattle.path.specs.Model.{Model, pathOf, sizesOf, lossesOf}
-use Rattle.path.specs.Update.{extended, testsMade}
+use Rattle.path.specs.Update.{joined, testsFor}
 use Rattle.path.specs.Refusal.{Check, check, byChecks, validPath, pathRoom, modelChecks}
 use Rattle.path.specs.Buffer.{overwrittenTo}
 use Rattle.path.specs.declared.PathResult.{PathResult}
@@ -38,15 +38,15 @@ pathLeft path tests n sizes losses =
     }
 
 -- The checks of an append of m to the path of n entries: 8, 5, 6, 7, 9. There is room where the path that the append would leave
--- fits, so that the places of dropped entries count as free.
+-- fits, so that the places of dropped entries count as free, and a model that is passed over needs none.
 abbrev pub appendChecks : List ℕ → List ℕ → ℕ → Model → List Check
 appendChecks sizes losses n m =
     check 8 (validPath sizes losses n)
     ∷ (modelChecks (pathOf sizes losses n) m
-    ++ (check 9 (pathRoom sizes losses (length (extended (pathOf sizes losses n) m))) ∷ []))
+    ++ (check 9 (pathRoom sizes losses (length (joined (pathOf sizes losses n) m))) ∷ []))
 
 -- An append of m to the path of n entries.
 unfoldable pub appendOf : List ℕ → List ℕ → ℕ → Model → PathOutcome
 appendOf sizes losses n m =
     byChecks (appendChecks sizes losses n m) (pathRefused sizes losses)
-    (pathLeft (extended (pathOf sizes losses n) m) (testsMade (pathOf sizes losses n) m) n sizes losses)
+    (pathLeft (joined (pathOf sizes losses n) m) (testsFor (pathOf sizes losses n) m) n sizes losses)

@@ -1,11 +1,11 @@
 -- The contracts of inner functions and what loops keep. A reader of the calls need not believe anything that stands here.
 use mathlib.Core.Path.{_≡_}
-use mathlib.Core.Bool.{true}
+use mathlib.Core.Bool.{Bool, true}
 use mathlib.Core.List.{List}
 use Prim.Native.Nat.{ℕ, suc, _+_, _^_, _≤_, _<_}
 use lib.ListN.{getD, length, drop}
-use Rattle.path.specs.Model.{Model, pathOf}
-use Rattle.path.specs.Update.{kept, testsMade}
+use Rattle.path.specs.Model.{Model, model, pathOf}
+use Rattle.path.specs.Update.{kept, testsMade, passedOver}
 use Rattle.path.specs.Refusal.{maxSize, maxLoss, ordered}
 use Rattle.path.specs.declared.Kept.{Kept}
 use Rattle.path.specs.declared.tally.Tally.{Tally}
@@ -30,6 +30,10 @@ pub record Scannable (sizes losses : List ℕ) (n size loss tests : ℕ) : Type 
   pub in-losses : n ≤ length losses
   pub countable : tests + n < 2 ^ 64
   pub near : (i : ℕ) → suc i < n → Comparable (getD sizes i 0) (getD losses i 0) (getD sizes (suc i) 0) (getD losses (suc i) 0) size loss
+
+-- The answer r says whether a model of this loss is passed over after n entries of these losses, whatever the sizes.
+abbrev pub PassesOver : List ℕ → ℕ → ℕ → Bool → Type 0
+PassesOver losses n loss r = (sizes : List ℕ) (size : ℕ) → r ≡ passedOver (pathOf sizes losses n) (model size loss)
 
 -- How many entries stay when m is tried, and a tally that was `tests` with the tests made for that.
 abbrev pub keptOf : List Model → Model → ℕ → Kept

@@ -1,5 +1,5 @@
 // The path of models: which sizes can be the cheapest at some penalty. A path lies in two lent lists, sizes and losses, its first
-// entry first. An append tries a new model against the entries from the last one back.
+// entry first. An append tries a new model against the entries from the last one back, unless its loss equals the last entry's.
 
 ghost use mathlib.Core.Path.{_≡_};
 ghost use mathlib.Core.List.{_∷_, [], _++_};
@@ -9,7 +9,7 @@ ghost use Rattle.path.specs.Model.{model, pathOf};
 ghost use Rattle.path.specs.Refusal.{inRange, follows, ordered, validPath, maxModels, roomFor, check, modelChecks, refusalOf};
 ghost use Rattle.path.specs.Buffer.{overwrittenTo};
 ghost use Rattle.path.specs.Append.{pathOutcome, appendOf};
-ghost use Rattle.path.specs.Inner.{Scannable, keptOf, tallyOf};
+ghost use Rattle.path.specs.Inner.{Scannable, PassesOver, keptOf, tallyOf};
 
 pub mod tally;
 
@@ -158,10 +158,22 @@ pub fn model_refusal(sizes: &[u64], losses: &[u64], entries: usize, size: u64, l
     if size <= sizes[last] {
         return 6;
     }
-    if losses[last] <= loss {
+    if losses[last] < loss {
         return 7;
     }
     0
+}
+
+// Whether a model of this loss is passed over after a path of so many entries, whatever their sizes.
+pub fn passed_over(losses: &[u64], entries: usize, loss: u64) -> bool
+    requires { ⌜ entries ≤ length (now losses) ⌝ }
+    ensures { λ r. ⌜ PassesOver (now (losses .entry)) entries loss r ⌝ }
+{
+    if entries == 0 {
+        return false;
+    }
+    let last = entries - 1;
+    loss == losses[last]
 }
 
 // The refusal of an append before its room is looked at: the first of 8, 5, 6 and 7, or 0.
@@ -241,7 +253,8 @@ pub fn refuse(refusal: u64) -> PathResult
     }
 }
 
-// Appends a model to the path of so many entries. The path then fills the front of both lists.
+// Appends a model to the path of so many entries. The path then fills the front of both lists. A model that is passed over leaves
+// both as they are.
 pub fn append(
     sizes: &mut [u64],
     losses: &mut [u64],
@@ -255,6 +268,13 @@ pub fn append(
     let refusal = input_refusal(sizes, losses, entries, size, loss);
     if refusal != 0 {
         return refuse(refusal);
+    }
+    if passed_over(losses, entries, loss) {
+        return PathResult {
+            refusal: refusal,
+            entries: entries,
+            tests: tally::none(),
+        };
     }
     let found = try_model(sizes, losses, entries, size, loss, tally::none());
     let kept = found.entries;

@@ -1,6 +1,8 @@
-// Random appends in buffers of a few places, after a build of a few models or a refused one, with refused appends among them.
-// Each answer, both whole buffers and the tests are compared with what an exhaustive search over the accepted models finds.
+// Random appends in buffers of a few places, after a build of a few models or a refused one, with refused appends and models that
+// are passed over among them. Each answer, both whole buffers and the tests are compared with what an exhaustive search over the
+// accepted models finds, those passed over too.
 
+use crate::due;
 use crate::history;
 use crate::history::History;
 use crate::models;
@@ -8,24 +10,25 @@ use testing::answer::Answer;
 use testing::answer::answer_of;
 use testing::answer::no_call;
 use testing::list::MARK;
+use testing::list::at;
 use testing::list::last;
 use testing::list::put;
-use testing::number::NONE;
 use testing::number::differs;
 use testing::number::fault;
 use testing::number::minus;
 use testing::number::plus;
 use testing::random::next;
 use testing::random::start;
-use testing::search::in_range;
-use testing::search::put_path;
 use testing::text::print;
 
-// What came of some calls: the mismatches, the tests, those accepted, and those refused by each number.
+// What came of some calls: the mismatches, the tests, those accepted, the models passed over, those of them in buffers that the
+// path fills, and the calls refused by each number.
 struct Counts {
     faults: u64,
     tests: u64,
     accepted: u64,
+    passed: u64,
+    full: u64,
     fives: u64,
     sixes: u64,
     sevens: u64,
@@ -42,7 +45,7 @@ struct State {
     counts: Counts,
 }
 
-// The size of a model to come after one of a size, from a random number: now and then out of range, or not larger.
+// The size of a model to come after an entry of a size, from a random number: now and then out of range, or not larger.
 fn next_size(last: u64, x: u64) -> u64 {
     match x % 40 {
         0 => 0,
@@ -51,12 +54,14 @@ fn next_size(last: u64, x: u64) -> u64 {
     }
 }
 
-// The loss of a model to come after one of a loss, from a random number: now and then out of range, or not smaller.
+// The loss of a model to come after one of a loss, from a random number: often the same, now and then out of range or above it.
 fn next_loss(last: u64, x: u64) -> u64 {
-    if x % 40 == 0 {
-        return 17592186044417;
+    match x % 16 {
+        0 => 17592186044417,
+        1 | 2 => plus(last, x % 16),
+        3..=8 => last,
+        _ => minus(last, x % 8),
     }
-    minus(last, x % 8)
 }
 
 // A state with the next model drawn from a random number.
@@ -65,7 +70,7 @@ fn offer(before: State, x: u64) -> State {
     let mut losses = before.losses;
     let made = before.history;
     let n = made.accepted as usize;
-    let size = next_size(last(&sizes, n, 0), x);
+    let size = next_size(due::last_size(&sizes, &losses, n), x);
     let loss = next_loss(last(&losses, n, 70), next(x));
     put(&mut sizes, n, size);
     put(&mut losses, n, loss);
@@ -77,47 +82,12 @@ fn offer(before: State, x: u64) -> State {
     offered
 }
 
-// The number of entries of the path of the first n models.
-fn path_length(sizes: &[u64], losses: &[u64], n: u64) -> u64 {
-    let mut path_sizes = [MARK; 24];
-    let mut path_losses = [MARK; 24];
-    put_path(sizes, losses, n as usize, &mut path_sizes, &mut path_losses)
-}
-
-// The refusal that is due to a model that comes after the first n of two lists, where it stands too: 5, 6, 7, 9 or 0. It is
-// NONE where the search has no path for it.
-fn append_due(sizes: &[u64], losses: &[u64], n: usize, size: u64, loss: u64, room: u64) -> u64 {
-    if !in_range(size, loss) {
-        return 5;
-    }
-    if size <= last(sizes, n, 0) {
-        return 6;
-    }
-    if last(losses, n, MARK) <= loss {
-        return 7;
-    }
-    let entries = path_length(sizes, losses, plus(n as u64, 1));
-    if entries == NONE {
-        return NONE;
-    }
-    if room < entries { 9 } else { 0 }
-}
-
 // The refusal that is due to the next model of a state.
-fn due(offered: State, room: usize) -> u64 {
+fn append_due(offered: State, room: usize) -> u64 {
     let sizes = offered.sizes;
     let losses = offered.losses;
     let made = offered.history;
-    let n = made.accepted as usize;
-    append_due(&sizes, &losses, n, offered.size, offered.loss, room as u64)
-}
-
-// The refusal that is due to a build of n good models: 1, 9 or 0.
-fn build_due(n: usize, room: usize) -> u64 {
-    if n == 0 {
-        return 1;
-    }
-    if room < n { 9 } else { 0 }
+    due::of_append(&sizes, &losses, made.accepted as usize, room as u64)
 }
 
 // The mismatches of an answer and the refusal that is due, with which all else is 0.
@@ -131,15 +101,23 @@ fn answer_faults(answer: Answer, due: u64) -> u64 {
 
 // Counts after a call to which a refusal was due, with so many mismatches and tests.
 fn count(before: Counts, due: u64, faults: u64, tests: u64) -> Counts {
-    Counts {
-        faults: plus(before.faults, faults),
-        tests: plus(before.tests, tests),
-        accepted: plus(before.accepted, fault(due != 0)),
-        fives: plus(before.fives, fault(due != 5)),
-        sixes: plus(before.sixes, fault(due != 6)),
-        sevens: plus(before.sevens, fault(due != 7)),
-        nines: plus(before.nines, fault(due != 9)),
-    }
+    let mut counts = before;
+    counts.faults = plus(before.faults, faults);
+    counts.tests = plus(before.tests, tests);
+    counts.accepted = plus(before.accepted, fault(due != 0));
+    counts.fives = plus(before.fives, fault(due != 5));
+    counts.sixes = plus(before.sixes, fault(due != 6));
+    counts.sevens = plus(before.sevens, fault(due != 7));
+    counts.nines = plus(before.nines, fault(due != 9));
+    counts
+}
+
+// Counts after a call that passed over so many models, and left a path that fills its buffers or not.
+fn count_passed(before: Counts, passed: u64, fills: bool) -> Counts {
+    let mut counts = before;
+    counts.passed = plus(before.passed, passed);
+    counts.full = plus(before.full, if fills { passed } else { 0 });
+    counts
 }
 
 // The state after a call that brought so many models, to which a refusal was due, and which left two buffers so.
@@ -157,13 +135,21 @@ fn judge(
     let counts = before.counts;
     let made = history::after(past, answer, models);
     let n = made.accepted as usize;
+    let passed = minus(
+        history::passed_over(&losses, n),
+        history::passed_over(&losses, past.accepted as usize),
+    );
     let faults = plus(
         answer_faults(answer, due),
         history::faults(&sizes, &losses, n, path_sizes, path_losses, made),
     );
     let mut judged = before;
     judged.history = made;
-    judged.counts = count(counts, due, faults, answer.tests);
+    judged.counts = count_passed(
+        count(counts, due, faults, answer.tests),
+        passed,
+        path_sizes.len() as u64 == made.entries,
+    );
     judged
 }
 
@@ -178,7 +164,7 @@ fn check_append(before: State, x: u64, path_sizes: &mut [u64], path_losses: &mut
         offered.size,
         offered.loss,
     ));
-    let due = due(offered, path_sizes.len());
+    let due = append_due(offered, path_sizes.len());
     judge(offered, answer, due, 1, path_sizes, path_losses)
 }
 
@@ -220,7 +206,7 @@ fn check_build(before: State, n: usize, path_sizes: &mut [u64], path_losses: &mu
     let sizes = before.sizes;
     let losses = before.losses;
     let answer = build_first(&sizes, &losses, n, path_sizes, path_losses);
-    let due = build_due(n, path_sizes.len());
+    let due = due::of_build(&sizes, &losses, n, path_sizes.len());
     judge(before, answer, due, n as u64, path_sizes, path_losses)
 }
 
@@ -230,6 +216,8 @@ fn none() -> Counts {
         faults: 0,
         tests: 0,
         accepted: 0,
+        passed: 0,
+        full: 0,
         fives: 0,
         sixes: 0,
         sevens: 0,
@@ -237,10 +225,22 @@ fn none() -> Counts {
     }
 }
 
-// A state with models drawn and none accepted.
+// A list with value i damaged.
+fn damage(values: [u64; 24], i: usize, kind: u64) -> [u64; 24] {
+    let mut changed = values;
+    put(&mut changed, i, models::damaged(kind, at(&values, i)));
+    changed
+}
+
+// A state with models drawn and none accepted. One of the first five may have its size or its loss damaged.
 fn draw(x: u64) -> State {
-    let sizes = models::sizes(1, x);
-    let losses = models::losses(1, next(x), &sizes, 0);
+    let y = next(x);
+    let i = (x / 16 % 5) as usize;
+    let mut drawn = models::sizes(6, x);
+    let falling = models::losses(6, y, &drawn, 40);
+    models::lift_all(6, y, &mut drawn, &falling);
+    let sizes = damage(drawn, i, y / 16 % 24);
+    let losses = damage(falling, i, y / 1024 % 24);
     State {
         sizes: sizes,
         losses: losses,
@@ -273,6 +273,8 @@ fn sum(a: Counts, b: Counts) -> Counts {
         faults: plus(a.faults, b.faults),
         tests: plus(a.tests, b.tests),
         accepted: plus(a.accepted, b.accepted),
+        passed: plus(a.passed, b.passed),
+        full: plus(a.full, b.full),
         fives: plus(a.fives, b.fives),
         sixes: plus(a.sixes, b.sixes),
         sevens: plus(a.sevens, b.sevens),
@@ -291,11 +293,13 @@ fn check_many(sequences: u64) -> Counts {
 pub fn run() {
     let counts = check_many(10000);
     print(
-        b"10000 sequences: mismatches #, tests #, accepted #, refused 5 #, 6 #, 7 #, 9 #\n",
+        b"10000 sequences: mismatches #, tests #, accepted #, passed over # (# in full buffers), refused 5 #, 6 #, 7 #, 9 #\n",
         &[
             counts.faults,
             counts.tests,
             counts.accepted,
+            counts.passed,
+            counts.full,
             counts.fives,
             counts.sixes,
             counts.sevens,

@@ -7,7 +7,6 @@ use testing::list::at;
 use testing::list::differences;
 use testing::list::put;
 use testing::number::fault;
-use testing::number::minus;
 use testing::number::plus;
 use testing::random::next;
 use testing::random::start;
@@ -18,18 +17,6 @@ use testing::text::print;
 struct Counts {
     faults: u64,
     refused: u64,
-}
-
-// What stands in place of a value, by the kind of damage.
-fn damaged(kind: u64, value: u64) -> u64 {
-    match kind {
-        0 => 0,
-        1 => 65536,
-        2 => 17592186044417,
-        3 => plus(value, 1),
-        4 => minus(value, 1),
-        _ => value,
-    }
 }
 
 // Whether entry j is in range, and larger with a smaller loss than each one before it.
@@ -94,7 +81,7 @@ fn exchange(values: [u64; 24], i: usize, j: usize, kind: u64) -> [u64; 24] {
     let mut changed = values;
     let value = at(&values, i);
     put(&mut changed, i, at(&values, j));
-    put(&mut changed, j, damaged(kind, value));
+    put(&mut changed, j, models::damaged(kind, value));
     changed
 }
 

@@ -2,9 +2,12 @@
 
 use testing::answer::Answer;
 use testing::list::MARK;
+use testing::list::at;
 use testing::list::differences;
 use testing::list::fill;
+use testing::list::last;
 use testing::number::differs;
+use testing::number::fault;
 use testing::number::minus;
 use testing::number::plus;
 use testing::search::put_path;
@@ -44,10 +47,20 @@ pub fn after(before: History, answer: Answer, models: u64) -> History {
     }
 }
 
-// The mismatches of the numbers in a history of n models with a path of m entries: all are accepted, and the tests are twice the
-// models, less one and less the entries.
-fn number_faults(n: u64, m: u64, made: History) -> u64 {
-    let tests = minus(plus(n, n), plus(m, 1));
+// How many of the first n models were passed over, where all are accepted: those that have the loss of the one before them.
+pub fn passed_over(losses: &[u64], n: usize) -> u64 {
+    let mut passed = 0;
+    for i in 0..n {
+        passed = plus(passed, fault(at(losses, i) != last(losses, i, MARK)));
+    }
+    passed
+}
+
+// The mismatches of the numbers in a history of n models, of which some are passed over, with a path of m entries: all are
+// accepted, and the tests are twice the models not passed over, less one and less the entries.
+fn number_faults(n: u64, passed: u64, m: u64, made: History) -> u64 {
+    let tried = minus(n, passed);
+    let tests = minus(plus(tried, tried), plus(m, 1));
     plus(
         differs(made.accepted, n),
         plus(differs(made.entries, m), differs(made.tests, tests)),
@@ -73,5 +86,8 @@ pub fn faults(
         differences(path_sizes, &right_sizes),
         differences(path_losses, &right_losses),
     );
-    plus(path, number_faults(n as u64, m, made))
+    plus(
+        path,
+        number_faults(n as u64, passed_over(losses, n), m, made),
+    )
 }

@@ -20,6 +20,7 @@ use testing::text::print;
 struct Totals {
     faults: u64,
     models: u64,
+    passed: u64,
     entries: u64,
     tests: u64,
 }
@@ -105,7 +106,7 @@ fn breakpoint_faults(sizes: &[u64], losses: &[u64], m: u64) -> u64 {
     )
 }
 
-// The mismatches of the model that a path gives at the penalty p / q and the first of the cheapest of all models.
+// The mismatches of the model that a path gives at the penalty p / q and the smallest of the cheapest of all models.
 fn selection_faults(
     sizes: &[u64],
     losses: &[u64],
@@ -130,8 +131,8 @@ fn selection_faults(
     )
 }
 
-// The mismatches at the penalty at which two models cost the same, and at its two neighbours; none if the first does not come
-// before the second.
+// The mismatches at the penalty at which two models cost the same, and at its two neighbours; none if the first is not the
+// smaller one.
 fn pair_faults(
     sizes: &[u64],
     losses: &[u64],
@@ -141,7 +142,7 @@ fn pair_faults(
     i: usize,
     j: usize,
 ) -> u64 {
-    if j <= i || sizes.len() <= j {
+    if sizes.len() <= j || at(sizes, j) <= at(sizes, i) {
         return 0;
     }
     let p = minus(at(losses, i), at(losses, j));
@@ -209,25 +210,33 @@ fn check_list(sizes: &[u64], losses: &[u64]) -> Totals {
     Totals {
         faults: plus(plus(building, selecting), plus(listing, appending)),
         models: n,
+        passed: history::passed_over(losses, sizes.len()),
         entries: made.entries,
         tests: made.tests,
     }
+}
+
+// The same for models with the sizes of those passed over raised.
+fn check_lifted(kind: u64, x: u64, sizes: &mut [u64], losses: &[u64]) -> Totals {
+    models::lift_all(kind, x, sizes, losses);
+    check_list(sizes, losses)
 }
 
 // The list i: 1 to 12 models of a kind.
 fn check_random(i: u64) -> Totals {
     let kind = i % models::KINDS;
     let x = start(1, i);
-    let sizes = models::sizes(kind, x);
+    let mut sizes = models::sizes(kind, x);
     let losses = models::losses(kind, next(x), &sizes, x % 3);
     let from = (x % 12) as usize + 12;
-    check_list(&sizes[from..24], &losses[from..24])
+    check_lifted(kind, x, &mut sizes[from..24], &losses[from..24])
 }
 
 fn sum(a: Totals, b: Totals) -> Totals {
     Totals {
         faults: plus(a.faults, b.faults),
         models: plus(a.models, b.models),
+        passed: plus(a.passed, b.passed),
         entries: plus(a.entries, b.entries),
         tests: plus(a.tests, b.tests),
     }
@@ -237,6 +246,7 @@ fn check_many(lists: u64) -> Totals {
     let mut totals = Totals {
         faults: 0,
         models: 0,
+        passed: 0,
         entries: 0,
         tests: 0,
     };
@@ -249,7 +259,13 @@ fn check_many(lists: u64) -> Totals {
 pub fn run() {
     let totals = check_many(20000);
     print(
-        b"20000 lists: mismatches #, models #, entries #, tests #\n",
-        &[totals.faults, totals.models, totals.entries, totals.tests],
+        b"20000 lists: mismatches #, models #, passed over #, entries #, tests #\n",
+        &[
+            totals.faults,
+            totals.models,
+            totals.passed,
+            totals.entries,
+            totals.tests,
+        ],
     );
 }

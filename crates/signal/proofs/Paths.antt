@@ -9,10 +9,10 @@ use native.Mathlib.Omega.{arith}
 use lib.IntN.{ℤ}
 use lib.ListN.{length, getD, replicate}
 use borrow.Rule.Slice.PartMut.{putMid}
-use borrow.Author.Tests.{lt-ltb, le-leb}
+use borrow.Author.Tests.{ltb-true, ltb-false, lt-ltb, leb-true, le-leb, eq-eqb, ne-eqb}
 use Rattle.path.specs.Model.{Model, model, valuesOf}
-use Rattle.path.specs.Update.{kept, extended}
-use Rattle.path.specs.Refusal.{maxSize, maxLoss, inRange, ordered, sizeAbove, lossBelow}
+use Rattle.path.specs.Update.{kept, extended, passedOver, joined}
+use Rattle.path.specs.Refusal.{maxSize, maxLoss, inRange, ordered, sizeAbove, lossNotAbove}
 use Rattle.path.specs.Append.{PathOutcome, appendOf}
 use Rattle.path.specs.Buffer.{overwrittenTo}
 use Rattle.path.specs.Inner.{Held}
@@ -21,7 +21,7 @@ use Rattle.path.proofs.Updates.{Keeps, stays, drops, keeps, kept-few, extended-
 use Rattle.path.proofs.Held.{held-none, held-skip, held-append, held-refused, held-length, held-cleared}
 use Rattle.segment.specs.Segment.{Samples16}
 use Rattle.least.specs.Segmentation.{maxSegments, least}
-use Rattle.signal.specs.Signal.{sizeCount, modelOf, signalPath}
+use Rattle.signal.specs.Signal.{sizeCount, modelOf, lossBelow, signalPath}
 use Rattle.signal.specs.SignalPath.{PathBuffers, pathBuffers}
 use Rattle.signal.specs.Inner.{LossesFrom, TableHeld, Solved}
 
@@ -84,6 +84,21 @@ model-in-range : (xs : List ℤ) (k : ℕ) → k < maxSegments → least xs k (l
 model-in-range xs k few low =
     rw (le-leb 1 (suc k) (omega arith), le-leb (suc k) maxSize (omega arith), le-leb (least xs k (length xs)) maxLoss low)
 
+-- A loss below the last entry's passes the check of 7, and its model is not passed over.
+below-tried : (st : List Model) (m : Model) → lossBelow st m ≡ true → (lossNotAbove st m ≡ true) × (passedOver st m ≡ false)
+unfolding lossBelow lossNotAbove passedOver
+below-tried [] m h = (refl, refl)
+below-tried (e ∷ r) m h =
+    let l = ltb-true (m .loss) (e .loss) h in
+    (le-leb (m .loss) (e .loss) (omega arith), ne-eqb (m .loss) (e .loss) (λ z. omega arith))
+
+-- Any other loss that passes is the last entry's, so that its model is passed over.
+else-passed : (st : List Model) (m : Model) → lossBelow st m ≡ false → lossNotAbove st m ≡ true → passedOver st m ≡ true
+unfolding lossBelow lossNotAbove passedOver
+else-passed [] m h n = sym h
+else-passed (e ∷ r) m h n =
+    eq-eqb (m .loss) (e .loss) (omega (arith, ltb-false (m .loss) (e .loss) h, leb-true (m .loss) (e .loss) n))
+
 -- The path of sizes whose losses are in range is ordered.
 pub path-ordered : (xs : List ℤ) (k : ℕ) → k ≤ maxSegments → ((m : ℕ) → m < k → least xs m (length xs) ≤ maxLoss) → ordered (signalPath xs k) ≡ true
 unfolding signalPath ordered
@@ -93,7 +108,8 @@ path-ordered xs (suc k) few low =
   where
     by-test : (b : Bool) → lossBelow (signalPath xs k) (modelOf xs k) ≡ b → ordered (signalPath xs k) ≡ true → ordered (cond b (extended (signalPath xs k) (modelOf xs k)) (signalPath xs k)) ≡ true
     by-test true e h =
-        extended-ordered (signalPath xs k) (modelOf xs k) h (record { range = model-in-range xs k (omega arith) (low k (omega arith)); size = size-above xs k (signalPath xs k) (path-sized xs k); loss = e })
+        let t = below-tried (signalPath xs k) (modelOf xs k) e in
+        extended-ordered (signalPath xs k) (modelOf xs k) h (record { range = model-in-range xs k (omega arith) (low k (omega arith)); size = size-above xs k (signalPath xs k) (path-sized xs k); loss = t .0 }) (t .1)
     by-test false e h = h
 
 -- What one more size leaves of the path.
@@ -109,7 +125,7 @@ pub held-start : (xs : List ℤ) (s l : List ℕ) → Held (signalPath xs 0) s l
 unfolding signalPath
 held-start xs s l = held-none s l
 
--- In one turn size i + 1 is appended or refused.
+-- In one turn size i + 1 is tried, passed over or refused.
 module _ (xs : List ℤ) (losses : List ℕ) (count : ℕ) (s₀ l₀ s l : List ℕ) (n i : ℕ) (ok : LossesFrom xs losses count (length s₀) (length l₀)) (turn : i < count) (h : Held (signalPath xs i) s₀ l₀ s l n i) where
   abbrev new : Model
   new = modelOf xs i
@@ -120,25 +136,33 @@ module _ (xs : List ℤ) (losses : List ℕ) (count : ℕ) (s₀ l₀ s l : List
   above : sizeAbove (signalPath xs i) new ≡ true
   above = size-above xs i (signalPath xs i) (path-sized xs i)
 
-  -- The buffers that an outcome leaves hold the next path, whether the size was taken or refused.
+  -- The buffers that an outcome leaves hold the next path, whether the size was accepted or refused.
   abbrev pub Turned : PathOutcome → Type 0
   Turned o =
       (o .refusal ≡ 0 → Held (signalPath xs (i + 1)) s₀ l₀ (o .sizes) (o .losses) (o .entries) (i + 1))
       × ((o .refusal ≡ 0 → ⊥) → Held (signalPath xs (i + 1)) s₀ l₀ (o .sizes) (o .losses) n (i + 1))
 
-  turned-by-append : Turned (appendOf s l n new)
-  turned-by-append = by-test (lossBelow (signalPath xs i) new) refl
-    where
-      seven : _≡_ {A = ℕ} 7 0 → ⊥
-      seven z = omega arith
+  -- An accepted size leaves what it should of the path.
+  accepted-turn : (next : joined (signalPath xs i) new ≡ signalPath xs (i + 1)) → lossNotAbove (signalPath xs i) new ≡ true → Turned (appendOf s l n new)
+  accepted-turn next e =
+      let a = held-append (signalPath xs i) s₀ l₀ s l n i h (omega (arith, ok .sizes-fit)) (omega (arith, ok .losses-fit)) new (omega (arith, ok .few)) (record { range = range; size = above; loss = e }) in
+      (λ z. subst (λ (st : List Model). Held st s₀ l₀ (appendOf s l n new .sizes) (appendOf s l n new .losses) (appendOf s l n new .entries) (i + 1)) next (a .2), λ z. absurd (z (a .0)))
 
-      by-test : (b : Bool) → lossBelow (signalPath xs i) new ≡ b → Turned (appendOf s l n new)
-      by-test true e =
-          let a = held-append (signalPath xs i) s₀ l₀ s l n i h (omega (arith, ok .sizes-fit)) (omega (arith, ok .losses-fit)) new (omega (arith, ok .few)) (record { range = range; size = above; loss = e }) in
-          (λ z. subst (λ (st : List Model). Held st s₀ l₀ (appendOf s l n new .sizes) (appendOf s l n new .losses) (appendOf s l n new .entries) (i + 1)) (path-taken xs i e) (a .2), λ z. absurd (z (a .0)))
-      by-test false e =
-          let a = held-refused (signalPath xs i) s₀ l₀ s l n i h (omega (arith, ok .sizes-fit)) (omega (arith, ok .losses-fit)) new (omega (arith, ok .few)) range above e in
-          rw a (λ z. absurd (seven z), λ z. subst (λ (st : List Model). Held st s₀ l₀ s l n (i + 1)) (path-skipped xs i e) (held-skip (signalPath xs i) s₀ l₀ s l n i h))
+  -- A refused one leaves the path.
+  refused-turn : signalPath xs i ≡ signalPath xs (i + 1) → lossNotAbove (signalPath xs i) new ≡ false → Turned (appendOf s l n new)
+  refused-turn next e =
+      let seven : _≡_ {A = ℕ} 7 0 → ⊥ = λ z. omega arith in
+      let a = held-refused (signalPath xs i) s₀ l₀ s l n i h (omega (arith, ok .sizes-fit)) (omega (arith, ok .losses-fit)) new (omega (arith, ok .few)) range above e in
+      rw a (λ z. absurd (seven z), λ z. subst (λ (st : List Model). Held st s₀ l₀ s l n (i + 1)) next (held-skip (signalPath xs i) s₀ l₀ s l n i h))
+
+  turned-by-append : Turned (appendOf s l n new)
+  turned-by-append = by-test (lossBelow (signalPath xs i) new) (lossNotAbove (signalPath xs i) new) refl refl
+    where
+      by-test : (b d : Bool) → lossBelow (signalPath xs i) new ≡ b → lossNotAbove (signalPath xs i) new ≡ d → Turned (appendOf s l n new)
+      by-test true d e f =
+          let t = below-tried (signalPath xs i) new e in accepted-turn (rw (t .1) (path-taken xs i e)) (t .0)
+      by-test false true e f = accepted-turn (rw (else-passed (signalPath xs i) new e f) (path-skipped xs i e)) f
+      by-test false false e f = refused-turn (path-skipped xs i e) f
 
   -- The append of size i + 1 takes the loss from the table.
   pub turned : (o : PathOutcome) → o ≡ appendOf s l n (model (i + 1) (getD losses i 0)) → Turned o

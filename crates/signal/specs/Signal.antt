@@ -1,13 +1,13 @@
 -- A signal, the trade's record, as a source of models: the least loss of each number of segments, the path of these models, and the
 -- segmentation at a penalty.
-use mathlib.Core.Bool.{cond}
+use mathlib.Core.Bool.{Bool, true, cond}
 use mathlib.Core.List.{List, [], _∷_}
 use Prim.Native.Nat.{ℕ, zero, suc, _-_, min}
+use lib.Dec.{ltb}
 use lib.IntN.{ℤ}
 use lib.ListN.{length}
 use Rattle.path.specs.Model.{Model, model, sizesOf, lossesOf}
 use Rattle.path.specs.Update.{extended}
-use Rattle.path.specs.Refusal.{lossBelow}
 use Rattle.select.specs.Select.{selectOf}
 use Rattle.least.specs.Segmentation.{Piece, least, chosen}
 
@@ -23,6 +23,11 @@ modelOf samples k = model (suc k) (least samples k (length samples))
 unfoldable pub modelsUpTo : List ℤ → ℕ → List Model
 modelsUpTo samples zero = []
 modelsUpTo samples (suc k) = modelOf samples k ∷ modelsUpTo samples k
+
+-- The loss is below the last entry's.
+unfoldable pub lossBelow : List Model → Model → Bool
+lossBelow [] m = true
+lossBelow (e ∷ r) m = ltb (m .loss) (e .loss)
 
 -- The path of these models. Sizes are appended in turn, and one whose loss is not below that of the last entry is skipped.
 unfoldable pub signalPath : List ℤ → ℕ → List Model

@@ -121,8 +121,8 @@ fn split_refusal(
     room_refusal(count, sizes_room, losses_room, scratch_room)
 }
 
-// Appends sizes 1 to count in turn. One whose loss is not below that of the last one appended is refused by the append, and
-// so is skipped.
+// Appends sizes 1 to count in turn. One whose loss is not below that of the last entry is skipped: the append passes it over, or
+// refuses it.
 fn fill_path(
     samples: &[i16],
     losses: &[u64],

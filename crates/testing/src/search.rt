@@ -1,5 +1,5 @@
-// What is right for the first n models of two lists, found by looking at all of them: the path and the model at a penalty. Sizes
-// rise, and losses fall or stay. Nothing here is taken from the calls that are tested.
+// What is right for the first n models of two lists, found by looking at all of them: the path and the model at a penalty. They
+// may stand in any order, save that a path lists its entries in theirs. Nothing here is taken from the calls that are tested.
 
 use crate::list::at;
 use crate::list::put;
@@ -13,21 +13,10 @@ pub fn in_range(size: u64, loss: u64) -> bool {
     0 < size && size < 65536 && loss < 17592186044417
 }
 
-// Whether model i is in range, and its size above that of the model before it and its loss not above that one's.
-fn follows(sizes: &[u64], losses: &[u64], i: usize) -> bool {
-    if !in_range(at(sizes, i), at(losses, i)) {
-        return false;
-    }
-    if i == 0 {
-        return true;
-    }
-    at(sizes, i - 1) < at(sizes, i) && at(losses, i) <= at(losses, i - 1)
-}
-
-// Whether all models are in range and in order, so that every product below can be had.
-fn in_order(sizes: &[u64], losses: &[u64], n: usize) -> bool {
+// Whether all models are in range, so that every product below can be had.
+fn all_in_range(sizes: &[u64], losses: &[u64], n: usize) -> bool {
     for i in 0..n {
-        if !follows(sizes, losses, i) {
+        if !in_range(at(sizes, i), at(losses, i)) {
             return false;
         }
     }
@@ -39,17 +28,20 @@ fn cost(sizes: &[u64], losses: &[u64], i: usize, p: u64, q: u64) -> u64 {
     plus(times(at(losses, i), q), times(p, at(sizes, i)))
 }
 
-// The cheaper of two models at the penalty p / q, of two that cost the same the first, and NONE where a cost cannot be had.
+// The cheaper of two models at the penalty p / q, of two that cost the same the smaller one, and NONE where a cost cannot be had.
 fn cheaper(sizes: &[u64], losses: &[u64], i: usize, j: usize, p: u64, q: u64) -> usize {
     let first = cost(sizes, losses, i, p, q);
     let second = cost(sizes, losses, j, p, q);
     if first == NONE || second == NONE {
         return NONE as usize;
     }
+    if second == first && at(sizes, j) < at(sizes, i) {
+        return j;
+    }
     if second < first { j } else { i }
 }
 
-// The index of the first of the cheapest models at the penalty p / q, and NONE where it cannot be had.
+// The index of the smallest of the cheapest models at the penalty p / q, and NONE where it cannot be had.
 pub fn cheapest(sizes: &[u64], losses: &[u64], n: usize, p: u64, q: u64) -> usize {
     let mut best = if n == 0 { NONE as usize } else { 0 };
     for i in 0..n {
@@ -58,34 +50,42 @@ pub fn cheapest(sizes: &[u64], losses: &[u64], n: usize, p: u64, q: u64) -> usiz
     best
 }
 
+// Whether model i costs less than h at some penalty: its size or its loss is smaller. It is not held against itself.
+fn wins_once(sizes: &[u64], losses: &[u64], h: usize, i: usize) -> bool {
+    i == h || at(sizes, i) < at(sizes, h) || at(losses, i) < at(losses, h)
+}
+
 // Whether the penalty at which model j begins to cost less than i lies below the one at which i begins to cost less than h,
-// where h is before i and j after it.
+// where h is smaller than i and j larger. Of other models nothing is asked.
 fn wins_between(sizes: &[u64], losses: &[u64], h: usize, i: usize, j: usize) -> bool {
-    let to_next = times(
+    if at(sizes, i) <= at(sizes, h) || at(sizes, j) <= at(sizes, i) {
+        return true;
+    }
+    let to_larger = times(
         minus(at(losses, i), at(losses, j)),
         minus(at(sizes, i), at(sizes, h)),
     );
-    let from_last = times(
+    let from_smaller = times(
         minus(at(losses, h), at(losses, i)),
         minus(at(sizes, j), at(sizes, i)),
     );
-    to_next < from_last
+    to_larger < from_smaller
 }
 
-// Whether model i has a smaller loss than h before it, and the same as above for every model after i.
-fn wins_after(sizes: &[u64], losses: &[u64], n: usize, h: usize, i: usize) -> bool {
-    for j in i..n {
-        if i < j && !wins_between(sizes, losses, h, i, j) {
+// Whether model i costs less than h at some penalty, and the same as above for every other model.
+fn wins_against(sizes: &[u64], losses: &[u64], n: usize, h: usize, i: usize) -> bool {
+    for j in 0..n {
+        if !wins_between(sizes, losses, h, i, j) {
             return false;
         }
     }
-    at(losses, i) < at(losses, h)
+    wins_once(sizes, losses, h, i)
 }
 
 // Whether model i is alone the cheapest at some penalty.
 fn wins(sizes: &[u64], losses: &[u64], n: usize, i: usize) -> bool {
-    for h in 0..i {
-        if !wins_after(sizes, losses, n, h, i) {
+    for h in 0..n {
+        if !wins_against(sizes, losses, n, h, i) {
             return false;
         }
     }
@@ -110,8 +110,8 @@ fn put_entry(
     plus(entries, 1)
 }
 
-// Writes the path of the models to the front of two lists, and returns its number of entries. It is NONE where the models are
-// out of range or out of order.
+// Writes the path of the models to the front of two lists, and returns its number of entries. It is NONE where a model is out of
+// range.
 pub fn put_path(
     sizes: &[u64],
     losses: &[u64],
@@ -119,7 +119,7 @@ pub fn put_path(
     path_sizes: &mut [u64],
     path_losses: &mut [u64],
 ) -> u64 {
-    if !in_order(sizes, losses, n) {
+    if !all_in_range(sizes, losses, n) {
         return NONE;
     }
     let mut entries = 0;

@@ -1,14 +1,16 @@
 -- `build::fill` meets its contract. The loop's invariant: the buffers hold the path of the first i models.
-use mathlib.Core.Path.{_≡_, ap, sym, subst}
-use Prim.Native.Nat.{ℕ, _-_, _≤_}
+use mathlib.Core.Path.{_≡_, ap, sym, subst, _∙_}
+use mathlib.Core.Logic.{⊎-elim}
+use Prim.Native.Nat.{ℕ, _+_, _-_, _≤_}
 use native.Mathlib.Omega.{arith}
-use lib.ListN.{length}
+use lib.ListN.{length, getD, set}
+use borrow.Author.Tests.{not-true, not-false}
 use Rattle.path.specs.Model.{modelAt, pathOf}
 use Rattle.path.specs.Inner.{keptOf}
 use Rattle.path.specs.declared.Kept.{Kept}
 use Rattle.path.specs.declared.tally.Tally.{Tally}
 use Rattle.build.specs.Inner.{BuiltIn}
-use Rattle.build.proofs.Steps.{built-none, tests-small, may-try, kept-before, built-pushed}
+use Rattle.build.proofs.Steps.{built-none, tests-small, may-try, kept-before, built-passed, built-pushed}
 use Rattle.build.proofs.fill.Statement.{statement}
 use Rattle.build.proofs.fill.Tie as tie
 
@@ -19,12 +21,28 @@ abbrev μ-loop : tie.MeasureT-loop
 μ-loop sizes losses path-sizes₀ path-losses₀ entries₀ tests₀ i₀ path-sizes path-losses entries tests i = length sizes - i
 
 -- A model that was tried keeps at most i entries.
-fits : (c : tie.After-try-model Inv-loop μ-loop) → c .try-model .result .entries ≤ c .before .before .before .before .before .before .loop .i
+fits : (c : tie.After-try-model Inv-loop μ-loop) → c .try-model .result .entries ≤ c .before .before .before .before .before .before .before .before .before .loop .i
 fits c =
+    let a = c .before .before .before .before .before .before .before .before .before .before .before .before .before .before .before .args in
+    let lp = c .before .before .before .before .before .before .before .before .before .loop in
+    let all = keptOf (pathOf (lp .path-sizes) (lp .path-losses) (lp .entries)) (modelAt (a .sizes .now) (a .losses .now) (lp .i)) (lp .tests .count) in
+    kept-before (a .sizes .now) (a .losses .now) (a .path-sizes .now) (a .path-losses .now) (lp .path-sizes) (lp .path-losses) (lp .entries) (lp .tests .count) (lp .i) (lp .inv .1) (c .before .before .before .before .before .before .before .before .before .before .before .before .before .before .before .pre) (c .before .before .before .before .before .before .before .before .loop-test .taken) (c .try-model .result .entries) (ap (λ (x : Kept). x .entries) {y = all} (c .try-model .ensures))
+
+-- It joins the path.
+pushed : (c : tie.After-tests Inv-loop μ-loop) → BuiltIn (c .before .before .before .before .before .before .before .before .before .before .before .before .before .before .before .before .args .sizes .now) (c .before .before .before .before .before .before .before .before .before .before .before .before .before .before .before .before .args .losses .now) (c .before .before .before .before .before .before .before .before .before .before .before .before .before .before .before .before .args .path-sizes .now) (c .before .before .before .before .before .before .before .before .before .before .before .before .before .before .before .before .args .path-losses .now) (set (c .before .before .before .before .before .before .before .before .before .before .loop .path-sizes) (c .before .try-model .result .entries) (getD (c .before .before .before .before .before .before .before .before .before .before .before .before .before .before .before .before .args .sizes .now) (c .before .before .before .before .before .before .before .before .before .before .loop .i) 0)) (set (c .before .before .before .before .before .before .before .before .before .before .loop .path-losses) (c .before .try-model .result .entries) (getD (c .before .before .before .before .before .before .before .before .before .before .before .before .before .before .before .before .args .losses .now) (c .before .before .before .before .before .before .before .before .before .before .loop .i) 0)) (c .before .try-model .result .entries + 1) (c .before .try-model .result .tests .count) (c .before .before .before .before .before .before .before .before .before .before .loop .i + 1)
+pushed c =
+    let a = c .before .before .before .before .before .before .before .before .before .before .before .before .before .before .before .before .args in
+    let lp = c .before .before .before .before .before .before .before .before .before .before .loop in
+    let found = c .before .try-model in
+    let all = keptOf (pathOf (lp .path-sizes) (lp .path-losses) (lp .entries)) (modelAt (a .sizes .now) (a .losses .now) (lp .i)) (lp .tests .count) in
+    built-pushed (a .sizes .now) (a .losses .now) (a .path-sizes .now) (a .path-losses .now) (lp .path-sizes) (lp .path-losses) (lp .entries) (lp .tests .count) (lp .i) (lp .inv .1) (c .before .before .before .before .before .before .before .before .before .before .before .before .before .before .before .before .pre) (c .before .before .before .before .before .before .before .before .before .loop-test .taken) (found .result .entries) (ap (λ (x : Kept). x .entries) {y = all} (found .ensures)) (found .result .tests .count) (ap (λ (x : Kept). x .tests .count) {y = all} (found .ensures)) (sym (c .before .before .before .before .before .passed-over .ensures (lp .path-sizes) (getD (a .sizes .now) (lp .i) 0)) ∙ not-true _ (c .before .before .before .before .if1 .taken))
+
+-- A model that is passed over leaves the path.
+passed : (c : tie.Else1 Inv-loop μ-loop) → BuiltIn (c .before .before .before .before .before .before .before .before .before .before .before .before .args .sizes .now) (c .before .before .before .before .before .before .before .before .before .before .before .before .args .losses .now) (c .before .before .before .before .before .before .before .before .before .before .before .before .args .path-sizes .now) (c .before .before .before .before .before .before .before .before .before .before .before .before .args .path-losses .now) (c .before .before .before .before .before .before .loop .path-sizes) (c .before .before .before .before .before .before .loop .path-losses) (c .before .before .before .before .before .before .loop .entries) (c .before .before .before .before .before .before .loop .tests .count) (c .before .before .before .before .before .before .loop .i + 1)
+passed c =
     let a = c .before .before .before .before .before .before .before .before .before .before .before .before .args in
     let lp = c .before .before .before .before .before .before .loop in
-    let all = keptOf (pathOf (lp .path-sizes) (lp .path-losses) (lp .entries)) (modelAt (a .sizes .now) (a .losses .now) (lp .i)) (lp .tests .count) in
-    kept-before (a .sizes .now) (a .losses .now) (a .path-sizes .now) (a .path-losses .now) (lp .path-sizes) (lp .path-losses) (lp .entries) (lp .tests .count) (lp .i) (lp .inv .1) (c .before .before .before .before .before .before .before .before .before .before .before .before .pre) (c .before .before .before .before .before .loop-test .taken) (c .try-model .result .entries) (ap (λ (x : Kept). x .entries) {y = all} (c .try-model .ensures))
+    built-passed (a .sizes .now) (a .losses .now) (a .path-sizes .now) (a .path-losses .now) (lp .path-sizes) (lp .path-losses) (lp .entries) (lp .tests .count) (lp .i) (lp .inv .1) (sym (c .before .passed-over .ensures (lp .path-sizes) (getD (a .sizes .now) (lp .i) 0)) ∙ not-false _ (c .if1 .left))
 
 none-requires : tie.Need-none-requires Inv-loop μ-loop
 none-requires c κs = tt
@@ -47,26 +65,29 @@ mul-loss c = omega (arith, c .before .before .before .before .before .before .be
 shared-slice-read-loss : tie.Need-shared-slice-read-loss Inv-loop μ-loop
 shared-slice-read-loss c = omega (arith, c .before .before .before .before .before .before .before .before .before .pre .paired)
 
+passed-over-requires : tie.Need-passed-over-requires Inv-loop μ-loop
+passed-over-requires c κs = omega (arith, c .before .before .before .before .loop .inv .1 .held .losses .long, c .before .before .before .before .loop .inv .1 .held .most, c .before .before .before .before .before .before .before .before .before .before .pre .losses-fit)
+
 try-model-requires : tie.Need-try-model-requires Inv-loop μ-loop
 try-model-requires c κs =
-    let a = c .before .before .before .before .before .before .before .before .before .before .before .args in
-    let lp = c .before .before .before .before .before .loop in
-    (may-try (a .sizes .now) (a .losses .now) (a .path-sizes .now) (a .path-losses .now) (lp .path-sizes) (lp .path-losses) (lp .entries) (lp .tests .count) (lp .i) (lp .inv .1) (c .before .before .before .before .before .before .before .before .before .before .before .pre) (c .before .before .before .before .loop-test .taken), tests-small (a .sizes .now) (a .losses .now) (a .path-sizes .now) (a .path-losses .now) (lp .path-sizes) (lp .path-losses) (lp .entries) (lp .tests .count) (lp .i) (lp .inv .1) (omega (arith, c .before .before .before .before .before .before .before .before .before .before .before .pre .few)))
+    let a = c .before .before .before .before .before .before .before .before .before .before .before .before .before .before .args in
+    let lp = c .before .before .before .before .before .before .before .before .loop in
+    (may-try (a .sizes .now) (a .losses .now) (a .path-sizes .now) (a .path-losses .now) (lp .path-sizes) (lp .path-losses) (lp .entries) (lp .tests .count) (lp .i) (lp .inv .1) (c .before .before .before .before .before .before .before .before .before .before .before .before .before .before .pre) (c .before .before .before .before .before .before .before .loop-test .taken), tests-small (a .sizes .now) (a .losses .now) (a .path-sizes .now) (a .path-losses .now) (lp .path-sizes) (lp .path-losses) (lp .entries) (lp .tests .count) (lp .i) (lp .inv .1) (omega (arith, c .before .before .before .before .before .before .before .before .before .before .before .before .before .before .pre .few)))
 
 mul-path-sizes : tie.Need-mul-path-sizes Inv-loop μ-loop
-mul-path-sizes c = omega (arith, fits c, c .before .before .before .before .before .before .loop .inv .1 .held .sizes .long, c .before .before .before .before .before .before .before .before .before .before .before .before .pre .sizes-fit)
+mul-path-sizes c = omega (arith, fits (c), c .before .before .before .before .before .before .before .before .before .loop .inv .1 .held .sizes .long, c .before .before .before .before .before .before .before .before .before .before .before .before .before .before .before .pre .sizes-fit)
 
 slice-write-path-sizes : tie.Need-slice-write-path-sizes Inv-loop μ-loop
-slice-write-path-sizes c = omega (arith, fits c, c .before .before .before .before .before .before .loop .inv .1 .held .sizes .long, c .before .before .before .before .before .before .before .before .before .before .before .before .pre .sizes-fit)
+slice-write-path-sizes c = omega (arith, fits (c), c .before .before .before .before .before .before .before .before .before .loop .inv .1 .held .sizes .long, c .before .before .before .before .before .before .before .before .before .before .before .before .before .before .before .pre .sizes-fit)
 
 mul-path-losses : tie.Need-mul-path-losses Inv-loop μ-loop
-mul-path-losses c = omega (arith, fits c, c .before .before .before .before .before .before .loop .inv .1 .held .losses .long, c .before .before .before .before .before .before .before .before .before .before .before .before .pre .losses-fit)
+mul-path-losses c = omega (arith, fits (c), c .before .before .before .before .before .before .before .before .before .loop .inv .1 .held .losses .long, c .before .before .before .before .before .before .before .before .before .before .before .before .before .before .before .pre .losses-fit)
 
 slice-write-path-losses : tie.Need-slice-write-path-losses Inv-loop μ-loop
-slice-write-path-losses c = omega (arith, fits c, c .before .before .before .before .before .before .loop .inv .1 .held .losses .long, c .before .before .before .before .before .before .before .before .before .before .before .before .pre .losses-fit)
+slice-write-path-losses c = omega (arith, fits (c), c .before .before .before .before .before .before .before .before .before .loop .inv .1 .held .losses .long, c .before .before .before .before .before .before .before .before .before .before .before .before .before .before .before .pre .losses-fit)
 
 add-entries : tie.Need-add-entries Inv-loop μ-loop
-add-entries c = omega (arith, fits c, c .before .before .before .before .before .before .before .before .before .before .before .before .pre .few)
+add-entries c = omega (arith, fits (c), c .before .before .before .before .before .before .before .before .before .before .before .before .before .before .before .pre .few)
 
 add-i : tie.Need-add-i Inv-loop μ-loop
 add-i c = omega arith
@@ -75,12 +96,13 @@ loop-less : tie.Need-loop-less Inv-loop μ-loop
 loop-less c = omega arith
 
 loop-again : tie.Need-loop-again Inv-loop μ-loop
-loop-again c =
-    let a = c .before .before .before .before .before .before .before .before .before .before .before .before .before .args in
-    let lp = c .before .before .before .before .before .before .before .loop in
-    let found = c .before .try-model in
-    let all = keptOf (pathOf (lp .path-sizes) (lp .path-losses) (lp .entries)) (modelAt (a .sizes .now) (a .losses .now) (lp .i)) (lp .tests .count) in
-    (omega arith, built-pushed (a .sizes .now) (a .losses .now) (a .path-sizes .now) (a .path-losses .now) (lp .path-sizes) (lp .path-losses) (lp .entries) (lp .tests .count) (lp .i) (lp .inv .1) (c .before .before .before .before .before .before .before .before .before .before .before .before .before .pre) (c .before .before .before .before .before .before .loop-test .taken) (found .result .entries) (ap (λ (x : Kept). x .entries) {y = all} (found .ensures)) (found .result .tests .count) (ap (λ (x : Kept). x .tests .count) {y = all} (found .ensures)))
+loop-again c = (
+  omega arith,
+  ⊎-elim
+      (λ w. rw (w .5, w .6, w .7, w .8) (pushed record { before = record { before = record { before = record { before = record { before = c .before; if1 = w .0 }; try-model-arg = w .1 }; try-model-arg2 = w .2 }; try-model = w .3 }; tests = w .4 }))
+      (λ w. rw (w .1, w .2, w .3, w .4) (passed record { before = c .before; if1 = w .0 }))
+      (c .if1 .came),
+)
 
 same-length : tie.Need-same-length Inv-loop μ-loop
 same-length c = c .before .loop .inv .1 .held .sizes .long
@@ -107,6 +129,7 @@ fill-spec =
     shared-slice-read-size
     mul-loss
     shared-slice-read-loss
+    passed-over-requires
     try-model-requires
     mul-path-sizes
     slice-write-path-sizes

@@ -8,7 +8,7 @@ use testing::list::differences;
 use testing::text::print;
 
 // Prints what an append or a build answered, and the number of places at which two buffers are not as before.
-fn print_answer(
+pub fn print_answer(
     answer: Answer,
     sizes: &[u64; 4100],
     losses: &[u64; 4100],

@@ -9,7 +9,7 @@ wins-spec =
     tie.close
     (tie.spec
     (λ sizes losses n i h₀ h. Unit)
-    (λ sizes losses n i h₀ h. i - h)
+    (λ sizes losses n i h₀ h. n - h)
     (λ c. search needs)
     (λ c κs. search needs)
     (λ c. search needs)

@@ -1,11 +1,11 @@
--- `testing::search::wins_after` is safe and ends. The loop counts its index up to the end of the range.
+-- `testing::search::wins_against` is safe and ends. The loop counts its index up to the end of the range.
 use Prim.Native.Nat.{_-_}
 use borrow.Author.Needs.{needs}
-use Rattle.testing.proofs.search.wins_after.Statement.{statement}
-use Rattle.testing.proofs.search.wins_after.Tie as tie
+use Rattle.testing.proofs.search.wins_against.Statement.{statement}
+use Rattle.testing.proofs.search.wins_against.Tie as tie
 
-pub wins-after-spec : {M : Type 1} → statement M
-wins-after-spec =
+pub wins-against-spec : {M : Type 1} → statement M
+wins-against-spec =
     tie.close
     (tie.spec
     (λ sizes losses n h i j₀ j. Unit)
@@ -16,6 +16,5 @@ wins-after-spec =
     (λ c. search needs)
     (λ c. search needs)
     (λ c. search needs)
-    (λ c κs. search needs)
     (λ c κs. search needs)
     (λ c. search needs))
