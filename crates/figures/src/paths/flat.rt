@@ -88,7 +88,7 @@ fn run_appends() {
 }
 
 // Appends to a lent path that is flat itself, which is out of order.
-fn run_lent() {
+fn run_flat_paths() {
     append(&mut [1, 2], &mut [5, 5], 2, 3, 4);
     append(&mut [1, 2], &mut [5, 5], 2, 3, 5);
 }
@@ -139,7 +139,7 @@ fn run_limit() {
 pub fn run() {
     run_builds();
     run_appends();
-    run_lent();
+    run_flat_paths();
     run_stretch();
     run_limit();
 }
