@@ -17,7 +17,7 @@ use Rattle.path.specs.Refusal.{ordered}
 use Rattle.path.proofs.Order.{within, ordered-parts}
 use Rattle.segment.specs.Segment.{Samples16, levelOf}
 use Rattle.segment.proofs.Bounds.{sample-fits, fits-sample, slice-small, level-small}
-use Rattle.least.specs.Segmentation.{Piece, perPiece, startsOf, levelsOf, lastStart, least, chosen}
+use Rattle.least.specs.Segmentation.{Piece, perPiece, startsOf, levelsOf, lastStart, least, chosenBy, chosen}
 use Rattle.least.proofs.LeastLosses.{lastStart-earliest}
 use Rattle.least.proofs.Chosen.{starts-rise}
 use Rattle.signal.specs.Signal.{sizeCount, signalPath, segmentsAt, segmentation}
@@ -74,19 +74,19 @@ ordered-fits (e ∷ d ∷ r) h =
     let rest = ordered-fits (d ∷ r) (parts .2) in
     ((omega (arith, w .small), rest .0), (omega (arith, w .low), rest .1))
 
--- The levels of the chosen segments of 16-bit samples fit.
+-- The levels of the chosen segments of 16-bit samples, by any losses g, fit.
 module _ (xs : List ℤ) (bits : Samples16 xs) where
   level-fits : (i j : ℕ) → i < j → j ≤ length xs → FitsSigned (levelOf (slice i j xs))
   level-fits i j h u =
       sample-fits (levelOf (slice i j xs)) (level-small (slice i j xs) (omega (arith, length-slice i j xs u)) (slice-small i j xs u bits))
 
-  levels-fit : (k j : ℕ) → k < j → j ≤ length xs → Every FitsSigned (levelsOf (chosen xs k j))
-  unfolding chosen perPiece
-  levels-fit zero j h u = (level-fits 0 j h u, tt)
-  levels-fit (suc k) j h u =
-      let i = lastStart xs (least xs k) (suc k) j in
-      let e = lastStart-earliest xs (least xs k) (suc k) j h in
-      every-append FitsSigned (levelsOf (chosen xs k i)) (levelOf (slice i j xs) ∷ []) (levels-fit k i (e .low) (omega (arith, e .high))) (level-fits i j (e .high) u, tt)
+  levels-fit : (g : ℕ → ℕ → ℕ) (k j : ℕ) → k < j → j ≤ length xs → Every FitsSigned (levelsOf (chosenBy xs g k j))
+  unfolding chosenBy perPiece
+  levels-fit g zero j h u = (level-fits 0 j h u, tt)
+  levels-fit g (suc k) j h u =
+      let i = lastStart xs (g k) (suc k) j in
+      let e = lastStart-earliest xs (g k) (suc k) j h in
+      every-append FitsSigned (levelsOf (chosenBy xs g k i)) (levelOf (slice i j xs) ∷ []) (levels-fit g k i (e .low) (omega (arith, e .high))) (level-fits i j (e .high) u, tt)
 
 -- So do their starts, which stay within the samples.
 starts-fit : (xs : List ℤ) (k : ℕ) → k < length xs → length xs < 256 ^ 2 → Small (256 ^ 2) (startsOf (chosen xs k (length xs)))
@@ -149,7 +149,7 @@ split-left-fits xs limit p q b bits ok f =
     let some : k - 1 < length xs = enough xs limit p q b bits ok in
     record {
       starts = every-overwritten (λ (x : ℕ). x < 256 ^ 2) (startsOf g) (b .starts) (starts-fit xs (k - 1) some (omega (arith, ok .solvable .short))) (f .starts);
-      levels = every-overwritten FitsSigned (levelsOf g) (b .levels) (levels-fit xs bits (k - 1) (length xs) some (omega arith)) (f .levels);
+      levels = every-overwritten FitsSigned (levelsOf g) (b .levels) (levels-fit xs bits (least xs) (k - 1) (length xs) some (omega arith)) (f .levels);
       path = path-left-fits xs limit (b .path) bits (ok .solvable) (f .path);
     }
 

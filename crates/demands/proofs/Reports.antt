@@ -16,7 +16,7 @@ use Rattle.hull.proofs.Winners.{winners-with-skipped}
 use Rattle.hull.proofs.Orders.{refuses-by-checks}
 use Rattle.segment.specs.Segment.{maxSamples}
 use Rattle.least.specs.Segmentation.{maxSegments, Piece}
-use Rattle.signal.specs.Signal.{sizeCount, modelsUpTo, segmentsAt, segmentation}
+use Rattle.signal.specs.Signal.{sizeCount, leastLosses, modelsUpTo, segmentsAt, segmentation}
 use Rattle.signal.specs.SignalPath.{validLimit}
 use Rattle.signal.specs.Split.{splitRooms, splitChecks, splitOf}
 use Rattle.signal.proofs.Inputs.{splittable}
@@ -236,8 +236,8 @@ ordered-claim before xs between k later h =
 pub path-line-claim : PathLineClaim
 path-line-claim xs k =
     let count = sizeCount xs k in (
-      winners-with-skipped (reportPath xs k) (appended xs count) (modelsUpTo xs count) (path-sound xs count) (tried-or-skipped xs count),
-      path-sound xs count .falling,
+      winners-with-skipped (reportPath xs k) (appended (leastLosses xs) count) (modelsUpTo xs count) (path-sound (leastLosses xs) count) (tried-or-skipped xs count),
+      path-sound (leastLosses xs) count .falling,
     )
 
 pub answer-claim : AnswerClaim

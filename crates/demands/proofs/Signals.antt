@@ -27,7 +27,7 @@ use Rattle.least.specs.Segmentation.{Piece, Segmentation, lossOf, pieceStart, p
 use Rattle.least.proofs.LeastLosses.{least-low}
 use Rattle.least.proofs.Optimality.{least-of-all, least-reached, earliest-starts, segmentation-long}
 use Rattle.least.proofs.Chosen.{levels-are-own, starts-rise, perPiece-count, chosen-loss}
-use Rattle.signal.specs.Signal.{sizeCount, modelOf, modelsUpTo, signalPath, segmentsAt, segmentation}
+use Rattle.signal.specs.Signal.{sizeCount, leastLosses, modelOf, modelsUpTo, signalPath, segmentsAt, segmentation}
 use Rattle.signal.specs.SignalPath.{PathBuffers, pathFilled, SignalPathOutcome, signalPathOf}
 use Rattle.signal.specs.Split.{SplitBuffers, SplitOutcome, splitAt, splitOf}
 use Rattle.signal.specs.Inner.{Solvable}
@@ -46,25 +46,25 @@ module _ (xs : List ℤ) (limit : ℕ) (b : PathBuffers) (bits : Samples16 xs) (
   abbrev path : List Model
   path = signalPath xs count
 
-  low : (m : ℕ) → m < count → least xs m (length xs) ≤ maxLoss
-  low m g = omega (arith, least-low xs bits m (length xs) (omega arith) (omega arith), ok .short)
+  low : leastLosses xs 0 ≤ maxLoss
+  low = omega (arith, least-low xs bits 0 (length xs) (omega (arith, ok .some)) (omega arith), ok .short)
 
   pub order : ordered path ≡ true
-  order = path-ordered xs count (omega (arith, ok .few)) low
+  order = path-ordered (leastLosses xs) count (omega (arith, ok .few)) low
 
   one : 0 < count
   one = omega (arith, ok .one, ok .some)
 
   few : length path ≤ maxModels
-  few = omega (arith, path-few xs count, ok .few)
+  few = omega (arith, path-few (leastLosses xs) count, ok .few)
 
   some : 1 ≤ length path
-  some = let e : count ≡ suc (count - 1) = omega (arith, one) in omega (arith, ap (λ (k : ℕ). length (signalPath xs k)) e, path-some xs (count - 1))
+  some = let e : count ≡ suc (count - 1) = omega (arith, one) in omega (arith, ap (λ (k : ℕ). length (signalPath xs k)) e, path-some (leastLosses xs) (count - 1))
 
   -- In any lists that hold it every accepted penalty selects the smallest of the cheapest of all sizes.
   selections : (s l : List ℕ) → pathOf s l (length path) ≡ path → validPath s l (length path) ≡ true → AlwaysSelectsSmallest s l (length path) (modelsUpTo xs count)
   selections s l is valid =
-      always-selects-smallest s l (length path) (appended xs count) (modelsUpTo xs count) valid (rw is (path-sound xs count)) (tried-or-skipped xs count) some
+      always-selects-smallest s l (length path) (appended (leastLosses xs) count) (modelsUpTo xs count) valid (rw is (path-sound (leastLosses xs) count)) (tried-or-skipped xs count) some
 
   -- What the call leaves of it.
   leaves-path : LeavesPath xs limit (pathFilled path count b) (length path)
@@ -72,8 +72,8 @@ module _ (xs : List ℤ) (limit : ℕ) (b : PathBuffers) (bits : Samples16 xs) (
       let is = path-overwritten path count (b .sizes) (b .losses) in
       let valid = valid-overwritten path count (b .sizes) (b .losses) order few in
       record {
-        winners = rw is (winners-with-skipped path (appended xs count) (modelsUpTo xs count) (path-sound xs count) (tried-or-skipped xs count));
-        falling = rw is (path-sound xs count .falling);
+        winners = rw is (winners-with-skipped path (appended (leastLosses xs) count) (modelsUpTo xs count) (path-sound (leastLosses xs) count) (tried-or-skipped xs count));
+        falling = rw is (path-sound (leastLosses xs) count .falling);
         never-eight = never-eight _ _ _ valid;
         selections = selections _ _ is valid;
       }
@@ -93,9 +93,9 @@ module _ (xs : List ℤ) (limit : ℕ) (b : PathBuffers) (bits : Samples16 xs) (
     answer = selectOf (sizesOf path) (lossesOf path) (length path) p q
 
     -- What is selected is the model of a size that occurs.
-    found : Entry xs count p q answer
+    found : Entry (leastLosses xs) count p q answer
     found =
-        entry xs count (sizesOf path) (lossesOf path) (length path) p q (record { one = one; is = path-alone path; valid = alone-valid; penalty = v }) answer refl
+        entry (leastLosses xs) count (sizesOf path) (lossesOf path) (length path) p q (record { one = one; is = path-alone path; valid = alone-valid; penalty = v }) answer refl
 
     -- It is the smallest of the cheapest.
     smallest : SmallestCheapest p q (modelOf xs (found .last)) (modelsUpTo xs count)
@@ -105,7 +105,7 @@ module _ (xs : List ℤ) (limit : ℕ) (b : PathBuffers) (bits : Samples16 xs) (
 
 -- An accepted split, taken apart.
 module _ (xs : List ℤ) (limit p q : ℕ) (b : SplitBuffers) (bits : Samples16 xs) (ok : Splittable xs limit p q b) where
-  abbrev here : Entry xs (count xs limit (b .path) bits (ok .solvable)) p q (answer xs limit (b .path) bits (ok .solvable) p q (ok .penalty))
+  abbrev here : Entry (leastLosses xs) (count xs limit (b .path) bits (ok .solvable)) p q (answer xs limit (b .path) bits (ok .solvable) p q (ok .penalty))
   here = found xs limit (b .path) bits (ok .solvable) p q (ok .penalty)
 
   -- The size given is one more than a number of a size that occurs.
@@ -157,8 +157,8 @@ module _ (xs : List ℤ) (limit p q : ℕ) (b : SplitBuffers) (bits : Samples16 
   pub gives : GivesCheapest xs limit p q (splitAt xs (signalPath xs (sizeCount xs limit)) (sizeCount xs limit) p q b) (segmentation xs given)
   gives =
       let reached = least-reached xs (given - 1) enough in
-      let starts-long : length (startsOf (segmentation xs given)) ≡ given = perPiece-count pieceStart xs (given - 1) (length xs) ∙ one-more in
-      let levels-long : length (levelsOf (segmentation xs given)) ≡ given = perPiece-count pieceLevel xs (given - 1) (length xs) ∙ one-more in
+      let starts-long : length (startsOf (segmentation xs given)) ≡ given = perPiece-count pieceStart xs (least xs) (given - 1) (length xs) ∙ one-more in
+      let levels-long : length (levelsOf (segmentation xs given)) ≡ given = perPiece-count pieceLevel xs (least xs) (given - 1) (length xs) ∙ one-more in
       record {
         lawful = subst (λ (m : ℕ). Segmentation xs m (segmentation xs given)) one-more (reached .0);
         some = omega (arith, here .size);

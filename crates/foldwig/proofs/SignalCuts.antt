@@ -20,9 +20,9 @@ use Rattle.select.specs.Select.{selected, selectChecks}
 use Rattle.select.specs.declared.SelectResult.{SelectResult}
 use Rattle.select.proofs.Walks.{select-done, select-refused}
 use Rattle.segment.specs.Segment.{maxSamples}
-use Rattle.least.specs.Segmentation.{Piece, maxSegments, perPiece, pieceStart, pieceLevel, startsOf, levelsOf, lossOf}
+use Rattle.least.specs.Segmentation.{Piece, maxSegments, perPiece, pieceStart, pieceLevel, startsOf, levelsOf, lossOf, least}
 use Rattle.least.proofs.Chosen.{perPiece-count}
-use Rattle.signal.specs.Signal.{sizeCount, signalPath, segmentsAt, segmentation}
+use Rattle.signal.specs.Signal.{sizeCount, leastLosses, pathBy, signalPath, segmentsAt, segmentation}
 use Rattle.signal.specs.SignalPath.{PathBuffers, pathBuffers, pathRooms, pathFilled, validLimit, inputChecks, roomCheck, SignalPathOutcome, signalPathChecks, signalPathRefused, signalPathLeft, signalPathOf}
 use Rattle.signal.specs.Split.{SplitBuffers, splitRooms, SplitOutcome, splitChecks, splitRefused, splitAt, splitOf}
 use Rattle.signal.proofs.Paths.{Sized, path-sized, path-few}
@@ -94,7 +94,7 @@ module _ (xs : List ℤ) (limit : ℕ) (b : PathBuffers) where
       let ok = path-solvable xs limit b e in
       let n = sizeCount xs limit in
       let path = signalPath xs n in
-      let filled = path-filled-cut path n b (path-few xs n) (omega (arith, ok .few)) in
+      let filled = path-filled-cut path n b (path-few (leastLosses xs) n) (omega (arith, ok .few)) in
       subst (λ (ys : List ℤ). pathLeft xs b ≡ signalPathOutcomeRejoined b (pathLeft ys (pathTaken b))) (sym (few-samples xs (ok .short)))
       (λ i. record { refusal = 0; entries = length path; buffers = filled i })
 
@@ -111,27 +111,28 @@ low-more k [] x f h (suc i) = omega arith
 low-more k (y ∷ xs) x f h zero = f 0
 low-more k (y ∷ xs) x f h (suc i) = low-more k xs x (λ j. f (suc j)) h i
 
-sizes-low : (xs : List ℤ) (k : ℕ) (path : List Model) → Sized xs k path → (i : ℕ) → getD (sizesOf path) i 0 ≤ k
+-- The sizes of a path of sizes 1 to k, by any losses f, are at most k.
+pub sizes-low : (f : ℕ → ℕ) (k : ℕ) (path : List Model) → Sized f k path → (i : ℕ) → getD (sizesOf path) i 0 ≤ k
 unfolding valuesOf
-sizes-low xs k [] h i = omega arith
-sizes-low xs k (e ∷ r) h i =
-    low-more k (sizesOf r) (e .size) (sizes-low xs k r (h .1)) (omega (arith, h .0 .1, ap (λ (m : Model). m .size) (h .0 .2))) i
+sizes-low f k [] h i = omega arith
+sizes-low f k (e ∷ r) h i =
+    low-more k (sizesOf r) (e .size) (sizes-low f k r (h .1)) (omega (arith, h .0 .1, ap (λ (m : Model). m .size) (h .0 .2))) i
 
 -- At any penalty there are at most as many segments as the largest size.
-segments-few : (xs : List ℤ) (k p q : ℕ) → segmentsAt (signalPath xs k) p q ≤ k
-segments-few xs k p q =
-    let path = signalPath xs k in
+pub segments-few : (f : ℕ → ℕ) (k p q : ℕ) → segmentsAt (pathBy f k) p q ≤ k
+segments-few f k p q =
+    let path = pathBy f k in
     let s = sizesOf path in
     let l = lossesOf path in
     let n = length path in
     let r = refusalOf (selectChecks s l n p q) in
     ⊎-elim
-    (λ (e : r ≡ 0). subst (λ (t : SelectResult). t .size ≤ k) (select-done s l n p q e (selected s l n p q) refl) (sizes-low xs k path (path-sized xs k) (selected s l n p q)))
+    (λ (e : r ≡ 0). subst (λ (t : SelectResult). t .size ≤ k) (select-done s l n p q e (selected s l n p q) refl) (sizes-low f k path (path-sized f k) (selected s l n p q)))
     (λ (h : 0 < r). subst (λ (t : SelectResult). t .size ≤ k) (select-refused s l n p q r refl (λ z. omega arith)) (omega arith))
     (eq-zero-or-pos r)
 
 pieces-few : {A : Type 0} (f : Piece → List Piece → A) (xs : List ℤ) (k : ℕ) → k ≤ maxSegments → length (perPiece f (segmentation xs k)) ≤ maxSegments
-pieces-few f xs k h = omega (arith, perPiece-count f xs (k - 1) (length xs))
+pieces-few f xs k h = omega (arith, perPiece-count f xs (least xs) (k - 1) (length xs))
 
 -- The first places of a split's buffers.
 abbrev pub splitTaken : SplitBuffers → SplitBuffers
@@ -177,8 +178,8 @@ module _ (xs : List ℤ) (limit p q : ℕ) (b : SplitBuffers) where
       let n = sizeCount xs limit in
       let path = signalPath xs n in
       let k = segmentsAt path p q in
-      let few : k ≤ maxSegments = omega (arith, segments-few xs n p q, ok .few) in
-      let filled = path-filled-cut path n (b .path) (path-few xs n) (omega (arith, ok .few)) in
+      let few : k ≤ maxSegments = omega (arith, segments-few (leastLosses xs) n p q, ok .few) in
+      let filled = path-filled-cut path n (b .path) (path-few (leastLosses xs) n) (omega (arith, ok .few)) in
       let starts = overwritten-cut (startsOf (segmentation xs k)) maxSegments (b .starts) (pieces-few pieceStart xs k few) in
       let levels = overwritten-cut (levelsOf (segmentation xs k)) maxSegments (b .levels) (pieces-few pieceLevel xs k few) in
       subst (λ (ys : List ℤ). left xs b ≡ splitOutcomeRejoined b (left ys (splitTaken b))) (sym (few-samples xs (ok .short)))

@@ -24,6 +24,18 @@ pub fn put_u16(bytes: &mut [u8], at: usize, value: u16)
     bytes[at + 1] = (value / 256) as u8;
 }
 
+// The eight-byte item that starts at the byte `at`: four of two bytes.
+pub fn get_u64(bytes: &[u8], at: usize) -> u64
+    requires { ⌜ at + 8 ≤ length (now bytes) ⌝ }
+    ensures { λ r. ⌜ r ≡ item 8 (now (bytes .entry)) at ⌝ }
+{
+    let first = get_u16(bytes, at) as u64;
+    let second = get_u16(bytes, at + 2) as u64;
+    let third = get_u16(bytes, at + 4) as u64;
+    let fourth = get_u16(bytes, at + 6) as u64;
+    first + 65536 * second + 4294967296 * third + 281474976710656 * fourth
+}
+
 // The item of `width` bytes that starts at the byte `at`.
 pub fn get(bytes: &[u8], at: usize, width: usize) -> u64
     requires { ⌜ (width ≤ 8) × (at + width ≤ length (now bytes)) ⌝ }

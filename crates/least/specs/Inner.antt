@@ -3,7 +3,7 @@
 -- function asks for and leaves. A gain is what a loss falls short of the sum of the squares of the raised samples. A start in the table
 -- is the number of samples before the last segment, as `lastStart` has it.
 use mathlib.Core.Path.{_≡_}
-use Prim.Native.Nat.{ℕ, suc, _+_, _*_, _-_, _≤_, _<_}
+use Prim.Native.Nat.{ℕ, zero, suc, _+_, _*_, _-_, _≤_, _<_}
 use mathlib.Core.List.{List}
 use lib.IntN.{ℤ}
 use lib.ListN.{length, getD, take}
@@ -13,6 +13,11 @@ use Rattle.segment.specs.Segment.{maxSamples, Samples16, segmentLoss}
 use Rattle.segment.specs.Inner.{maxSquare, raisedSquares, squaresTo, GainReady}
 use Rattle.least.specs.Segmentation.{maxSegments, lossWithLast, lastStart, least, startsOf, chosenOf}
 use Rattle.least.specs.Scratch.{scratchLen}
+
+-- The number of samples before the last of k + 1 segments over the first j that are chosen by losses g.
+unfoldable pub before : List ℤ → (ℕ → ℕ → ℕ) → ℕ → ℕ → ℕ
+before xs g zero j = 0
+before xs g (suc k) j = lastStart xs (g k) (suc k) j
 
 -- The byte at which the start of the last of m + 2 segments over the first j samples stands.
 abbrev pub startPlace : ℕ → ℕ → ℕ

@@ -1,4 +1,4 @@
-// One segment of a signal: its level, and its gain, which is what its loss falls short of the sum of squares. Prefix sums and
+// One segment of a signal: its level, its loss, and its gain, which is what its loss falls short of the sum of squares. Prefix sums and
 // reciprocals give the gain in constant time. Contracts speak of the samples as whole numbers. Inside, a sample is raised by 32,768,
 // so that sums are natural numbers.
 ghost use mathlib.Core.Path.{_≡_};
@@ -10,6 +10,7 @@ ghost use Rattle.segment.specs.Segment.{maxSamples, level, levelOf, segm
 ghost use Rattle.segment.specs.Inner.{offset, maxRaised, maxSquare, raised, raisedSquare, raisedSquares, squaresTo};
 ghost use Rattle.segment.specs.Inner.{FrontOf, SumsFrom, Summed, SegmentIn, SumOf};
 ghost use Rattle.segment.specs.Inner.{ReciprocalsFrom, Reciprocals, QuotientFrom, GainIn};
+ghost use Rattle.segment.specs.Inner.{SumsIn, TailsFrom, TailLosses};
 
 // The most samples that a signal has.
 pub const MAX_SAMPLES: usize = 512;
@@ -142,4 +143,31 @@ pub fn segment_gain(samples: &[i16], sums: &[u32], recips: &[u64], from: usize, 
     let sum = sums[to] - sums[from];
     let v = raised_level(recips, sum, n);
     v * (2 * sum as u64 - n as u64 * v)
+}
+
+// The loss of the segment of samples from + 1 to to, whose raised samples have this sum, and their squares that one. The samples are
+// lent for the contract alone.
+fn segment_loss(samples: &[i16], from: usize, to: usize, sum: u32, squares: u64) -> u64
+    requires { ⌜ SumsIn (now samples) from to sum squares ⌝ }
+    ensures { λ r. ⌜ r ≡ segmentLoss (slice from to (now (samples .entry))) ⌝ }
+{
+    let n = (to - from) as u32;
+    let v = ((2 * sum + n - 1) / (2 * n)) as u64;
+    squares - v * (2 * sum as u64 - n as u64 * v)
+}
+
+// For each i below `to` the loss of the segment of samples i + 1 to to. Its sums grow as it does, from its last sample back.
+pub fn tail_losses(samples: &[i16], to: usize, losses: &mut [u64])
+    requires { ⌜ TailsFrom (now samples) to (now losses) ⌝ }
+    ensures { λ r. ⌜ TailLosses (now (samples .entry)) to (now (losses .exit)) ⌝ }
+{
+    let mut i = to;
+    let mut sum: u32 = 0;
+    let mut squares: u64 = 0;
+    while 0 < i {
+        i -= 1;
+        sum += raise(samples[i]);
+        squares += raised_square(samples[i]);
+        losses[i] = segment_loss(samples, i, to, sum, squares);
+    }
 }

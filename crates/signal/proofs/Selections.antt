@@ -1,5 +1,5 @@
--- The entry of a signal's path at a penalty: it is the same from any buffers that hold the path, and the model of a size that
--- occurs, so that the table has its segmentation.
+-- The entry at a penalty of the path of sizes by their losses: it is the same from any buffers that hold the path, and the model of a
+-- size that occurs, so that the table of a signal has its segmentation.
 use mathlib.Core.Path.{_≡_, refl, ap, sym, subst, _∙_}
 use mathlib.Core.Bool.{true, cond}
 use mathlib.Core.Logic.{⊎-elim}
@@ -23,7 +23,7 @@ use Rattle.select.proofs.Walks.{Selectable, accepted, selected-within, select-d
 use Rattle.least.specs.Segmentation.{least, pieceStart, pieceLevel, startsOf, levelsOf, lossOf}
 use Rattle.least.specs.Inner.{TraceFrom, LevelsFrom}
 use Rattle.least.proofs.Chosen.{perPiece-count, perPiece-taken, chosen-loss}
-use Rattle.signal.specs.Signal.{modelOf, signalPath, segmentsAt, segmentation}
+use Rattle.signal.specs.Signal.{modelBy, leastLosses, pathBy, signalPath, segmentsAt, segmentation}
 use Rattle.signal.specs.SignalPath.{PathBuffers}
 use Rattle.signal.specs.Inner.{SegmentFrom, SegmentedAt}
 use Rattle.signal.proofs.Paths.{Sized, path-sized, path-some}
@@ -55,30 +55,30 @@ path-alone st =
     subst (λ (l : List ℕ). pathOf (sizesOf st) l (length st) ≡ st) (append-nil (lossesOf st))
     (subst (λ (s : List ℕ). pathOf s (lossesOf st ++ []) (length st) ≡ st) (append-nil (sizesOf st)) (path-front st [] []))
 
-sized-at : (xs : List ℤ) (k : ℕ) (s l : List ℕ) (n : ℕ) → Sized xs k (pathOf s l n) → (i : ℕ) → i < n → (m : ℕ) × (m < k) × (modelAt s l i ≡ modelOf xs m)
+sized-at : (f : ℕ → ℕ) (k : ℕ) (s l : List ℕ) (n : ℕ) → Sized f k (pathOf s l n) → (i : ℕ) → i < n → (m : ℕ) × (m < k) × (modelAt s l i ≡ modelBy f m)
 unfolding pathOf
-sized-at xs k s l zero h i p = absurd (not-suc-le-zero p)
-sized-at xs k s l (suc n) h i p =
-    ⊎-elim (λ (q : i ≡ n). rw q (h .0)) (λ (q : i < n). sized-at xs k s l n (h .1) i q) (eq-or-lt-of-le {n = i} {m = n} (omega arith))
+sized-at f k s l zero h i p = absurd (not-suc-le-zero p)
+sized-at f k s l (suc n) h i p =
+    ⊎-elim (λ (q : i ≡ n). rw q (h .0)) (λ (q : i < n). sized-at f k s l n (h .1) i q) (eq-or-lt-of-le {n = i} {m = n} (omega arith))
 
--- What is selected from the path of a signal in any buffers.
-pub record Entry (xs : List ℤ) (count p q : ℕ) (found : SelectResult) : Type 0 where
-  pub is : found ≡ selectOf (sizesOf (signalPath xs count)) (lossesOf (signalPath xs count)) (length (signalPath xs count)) p q
+-- What is selected from the path of sizes 1 to count, by losses f, in any buffers.
+pub record Entry (f : ℕ → ℕ) (count p q : ℕ) (found : SelectResult) : Type 0 where
+  pub is : found ≡ selectOf (sizesOf (pathBy f count)) (lossesOf (pathBy f count)) (length (pathBy f count)) p q
   pub last : ℕ
   pub few : last < count
   pub size : found .size ≡ suc last
-  pub loss : found .loss ≡ least xs last (length xs)
+  pub loss : found .loss ≡ f last
 
 -- Buffers hold the path of sizes 1 to count, and a penalty is in its range.
-pub record PathIn (xs : List ℤ) (count : ℕ) (s l : List ℕ) (n p q : ℕ) : Type 0 where
+pub record PathIn (f : ℕ → ℕ) (count : ℕ) (s l : List ℕ) (n p q : ℕ) : Type 0 where
   pub one : 0 < count
-  pub is : pathOf s l n ≡ signalPath xs count
+  pub is : pathOf s l n ≡ pathBy f count
   pub valid : validPath s l n ≡ true
   pub penalty : validPenalty p q ≡ true
 
-module _ (xs : List ℤ) (count : ℕ) (s l : List ℕ) (n p q : ℕ) (ok : PathIn xs count s l n p q) where
+module _ (f : ℕ → ℕ) (count : ℕ) (s l : List ℕ) (n p q : ℕ) (ok : PathIn f count s l n p q) where
   abbrev path : List Model
-  path = signalPath xs count
+  path = pathBy f count
 
   entries : n ≡ length path
   entries = sym (length-path s l n) ∙ ap length (ok .is)
@@ -86,7 +86,7 @@ module _ (xs : List ℤ) (count : ℕ) (s l : List ℕ) (n p q : ℕ) (ok : Path
   some : 1 ≤ n
   some =
       let e : count ≡ suc (count - 1) = omega (arith, ok .one) in
-      omega (arith, entries, ap (λ (k : ℕ). length (signalPath xs k)) e, path-some xs (count - 1))
+      omega (arith, entries, ap (λ (k : ℕ). length (pathBy f k)) e, path-some f (count - 1))
 
   in-buffers : Selectable s l n p q
   in-buffers = record { valid = ok .valid; some = some; penalty = ok .penalty }
@@ -105,13 +105,13 @@ module _ (xs : List ℤ) (count : ℕ) (s l : List ℕ) (n p q : ℕ) (ok : Path
         penalty = ok .penalty;
       }
 
-  pub entry : (found : SelectResult) → found ≡ selectOf s l n p q → Entry xs count p q found
+  pub entry : (found : SelectResult) → found ≡ selectOf s l n p q → Entry f count p q found
   entry found e =
       let same : pathOf s l n ≡ pathOf (sizesOf path) (lossesOf path) n = ok .is ∙ sym (path-alone path) ∙ ap (pathOf (sizesOf path) (lossesOf path)) (sym entries) in
       let i = selected s l n p q in
       let within = selected-within s l p q (n - 1) 0 in
       let answer : found ≡ entryAt s l i = e ∙ sym (select-done s l n p q (accepted s l n p q in-buffers) i refl) in
-      let m = sized-at xs count s l n (rw (ok .is) (path-sized xs count)) i (omega (arith, some)) in
+      let m = sized-at f count s l n (rw (ok .is) (path-sized f count)) i (omega (arith, some)) in
       record {
         is = e ∙ select-agrees s l (sizesOf path) (lossesOf path) n p q same in-buffers alone ∙ ap (λ (k : ℕ). selectOf (sizesOf path) (lossesOf path) k p q) entries;
         last = m .0;
@@ -122,11 +122,11 @@ module _ (xs : List ℤ) (count : ℕ) (s l : List ℕ) (n p q : ℕ) (ok : Path
 
 -- What the segmentation at a penalty is made from.
 module _ (xs : List ℤ) (count : ℕ) (b : PathBuffers) (n p q : ℕ) (starts : List ℕ) (levels : List ℤ) (ok : SegmentFrom xs count b n p q starts levels) where
-  pub entry-from : (found : SelectResult) → found ≡ selectOf (b .sizes) (b .losses) n p q → Entry xs count p q found
+  pub entry-from : (found : SelectResult) → found ≡ selectOf (b .sizes) (b .losses) n p q → Entry (leastLosses xs) count p q found
   entry-from found e =
-      entry xs count (b .sizes) (b .losses) n p q (record { one = ok .one; is = ok .path; valid = ok .valid; penalty = ok .penalty }) found e
+      entry (leastLosses xs) count (b .sizes) (b .losses) n p q (record { one = ok .one; is = ok .path; valid = ok .valid; penalty = ok .penalty }) found e
 
-  module _ (found : SelectResult) (h : Entry xs count p q found) where
+  module _ (found : SelectResult) (h : Entry (leastLosses xs) count p q found) where
     pub may-trace : TraceFrom xs (b .scratch) starts (found .size)
     may-trace =
         record {
@@ -147,7 +147,7 @@ module _ (xs : List ℤ) (count : ℕ) (b : PathBuffers) (n p q : ℕ) (starts :
             one = omega (arith, h .size);
             enough = omega (arith, h .size, h .few, ok .enough);
             len-levels = omega (arith, h .size, h .few, ok .levels-fit);
-            starts-are = perPiece-taken pieceStart xs (found .size) (length xs) starts' (drop (found .size) starts) (omega (arith, h .size)) e;
+            starts-are = perPiece-taken pieceStart xs (least xs) (found .size) (length xs) starts' (drop (found .size) starts) (omega (arith, h .size)) e;
           }
 
       pub segmented : (levels' : List ℤ) → levels' ≡ levelsOf (segmentation xs (found .size)) ++ drop (found .size) levels → SegmentedAt xs count p q starts levels starts' levels' found
@@ -156,8 +156,8 @@ module _ (xs : List ℤ) (count : ℕ) (b : PathBuffers) (n p q : ℕ) (starts :
           let size : k ≡ segmentsAt (signalPath xs count) p q = ap (λ (r : SelectResult). r .size) (h .is) in
           let one : suc (k - 1) ≡ k = omega (arith, h .size) in
           let last : k - 1 ≡ h .last = omega (arith, h .size) in
-          let starts-long : length (startsOf (segmentation xs k)) ≡ k = perPiece-count pieceStart xs (k - 1) (length xs) ∙ one in
-          let levels-long : length (levelsOf (segmentation xs k)) ≡ k = perPiece-count pieceLevel xs (k - 1) (length xs) ∙ one in
+          let starts-long : length (startsOf (segmentation xs k)) ≡ k = perPiece-count pieceStart xs (least xs) (k - 1) (length xs) ∙ one in
+          let levels-long : length (levelsOf (segmentation xs k)) ≡ k = perPiece-count pieceLevel xs (least xs) (k - 1) (length xs) ∙ one in
           let loss : found .loss ≡ lossOf (segmentation xs k) = h .loss ∙ ap (λ (m : ℕ). least xs m (length xs)) (sym last) ∙ sym (chosen-loss xs (k - 1) (length xs)) in
           let fs : starts' ≡ overwritten (startsOf (segmentation xs k)) starts = e ∙ ap (λ (m : ℕ). startsOf (segmentation xs k) ++ drop m starts) (sym starts-long) in
           let fl : levels' ≡ overwritten (levelsOf (segmentation xs k)) levels = f ∙ ap (λ (m : ℕ). levelsOf (segmentation xs k) ++ drop m levels) (sym levels-long) in

@@ -1,32 +1,46 @@
 -- The contracts of inner functions and of the steps from which a call on a signal, and later a report, is made. A reader of the
 -- calls need not believe anything that stands here.
 use mathlib.Core.Path.{_≡_}
-use mathlib.Core.Bool.{true}
+use mathlib.Core.Bool.{Bool, true}
 use mathlib.Core.List.{List}
 use Prim.Native.Nat.{ℕ, _+_, _≤_, _<_}
 use lib.IntN.{ℤ}
 use lib.ListN.{length, getD}
-use Rattle.path.specs.Model.{pathOf, sizesOf, lossesOf}
+use Rattle.path.specs.Model.{Model, model, pathOf, sizesOf, lossesOf}
 use Rattle.path.specs.Refusal.{validPath, maxLoss}
 use Rattle.path.specs.Buffer.{overwrittenTo, overwritten}
 use Rattle.select.specs.Penalty.{validPenalty}
 use Rattle.select.specs.Select.{selectOf}
 use Rattle.select.specs.declared.SelectResult.{SelectResult}
 use Rattle.segment.specs.Segment.{maxSamples, Samples16}
-use Rattle.least.specs.Segmentation.{maxSegments, least, startsOf, levelsOf, lossOf}
+use Rattle.least.specs.Segmentation.{maxSegments, startsOf, levelsOf, lossOf}
 use Rattle.least.specs.Scratch.{scratchLen}
 use Rattle.least.specs.Inner.{StartsAre}
-use Rattle.signal.specs.Signal.{sizeCount, signalPath, segmentsAt, segmentation}
+use Rattle.signal.specs.Signal.{sizeCount, lossBelow, signalPath, segmentsAt, segmentation}
 use Rattle.signal.specs.SignalPath.{PathBuffers}
 
--- The least losses of 1 to count segments are at hand, and the path's buffers have room for as many entries.
-pub record LossesFrom (samples : List ℤ) (losses : List ℕ) (count sizesRoom lossesRoom : ℕ) : Type 0 where
+-- The losses of the sizes, as a list has them.
+abbrev pub lossesIn : List ℕ → ℕ → ℕ
+lossesIn losses k = getD losses k 0
+
+-- The answer r says whether this loss is below that of the last of n entries of these losses, whatever the sizes.
+abbrev pub IsBelow : List ℕ → ℕ → ℕ → Bool → Type 0
+IsBelow losses n loss r = (sizes : List ℕ) (size : ℕ) → r ≡ lossBelow (pathOf sizes losses n) (model size loss)
+
+-- The losses of 1 to count segments are at hand, the first of them in its range, and the path's buffers have room for as many entries.
+pub record LossesFrom (losses : List ℕ) (count sizesRoom lossesRoom : ℕ) : Type 0 where
   pub few : count ≤ maxSegments
   pub listed : count ≤ length losses
   pub sizes-fit : count ≤ sizesRoom
   pub losses-fit : count ≤ lossesRoom
-  pub losses-are : (m : ℕ) → m < count → getD losses m 0 ≡ least samples m (length samples)
-  pub losses-low : (m : ℕ) → m < count → least samples m (length samples) ≤ maxLoss
+  pub first-low : getD losses 0 0 ≤ maxLoss
+
+-- The path's buffers, which were s₀ and l₀, hold a path, with zeros after it as far as place n.
+pub record PathWritten (path : List Model) (n : ℕ) (s₀ l₀ s l : List ℕ) (entries : ℕ) : Type 0 where
+  pub counted : entries ≡ length path
+  pub sizes-are : s ≡ overwrittenTo (sizesOf path) n s₀
+  pub losses-are : l ≡ overwrittenTo (lossesOf path) n l₀
+  pub valid : validPath s l entries ≡ true
 
 -- A signal and a limit are in their ranges, and the buffers fit.
 pub record Solvable (samples : List ℤ) (limit : ℕ) (b : PathBuffers) : Type 0 where

@@ -15,9 +15,17 @@ use Rattle.least.specs.Segmentation.{Piece, least, chosen}
 abbrev pub sizeCount : List ℤ → ℕ → ℕ
 sizeCount samples limit = min limit (length samples)
 
--- The model of k + 1 segments has their least loss.
+-- The model of k + 1 segments, by the losses of the sizes.
+abbrev pub modelBy : (ℕ → ℕ) → ℕ → Model
+modelBy losses k = model (suc k) (losses k)
+
+-- The least loss of k + 1 segments of the whole signal.
+abbrev pub leastLosses : List ℤ → ℕ → ℕ
+leastLosses samples k = least samples k (length samples)
+
+-- The model of k + 1 segments of a signal has their least loss.
 abbrev pub modelOf : List ℤ → ℕ → Model
-modelOf samples k = model (suc k) (least samples k (length samples))
+modelOf samples k = modelBy (leastLosses samples) k
 
 -- The models of sizes 1 to k, the last one first.
 unfoldable pub modelsUpTo : List ℤ → ℕ → List Model
@@ -29,13 +37,18 @@ unfoldable pub lossBelow : List Model → Model → Bool
 lossBelow [] m = true
 lossBelow (e ∷ r) m = ltb (m .loss) (e .loss)
 
--- The path of these models. Sizes are appended in turn, and one whose loss is not below that of the last entry is skipped.
-unfoldable pub signalPath : List ℤ → ℕ → List Model
-signalPath samples zero = []
-signalPath samples (suc k) =
-    cond (lossBelow (signalPath samples k) (modelOf samples k))
-    (extended (signalPath samples k) (modelOf samples k))
-    (signalPath samples k)
+-- The path of the models of sizes 1 to k by losses. Sizes are appended in turn, and one whose loss is not below that of the last entry
+-- is skipped.
+unfoldable pub pathBy : (ℕ → ℕ) → ℕ → List Model
+pathBy losses zero = []
+pathBy losses (suc k) =
+    cond (lossBelow (pathBy losses k) (modelBy losses k))
+    (extended (pathBy losses k) (modelBy losses k))
+    (pathBy losses k)
+
+-- The path of a signal, by the least losses.
+abbrev pub signalPath : List ℤ → ℕ → List Model
+signalPath samples k = pathBy (leastLosses samples) k
 
 -- The number of segments at the penalty p / q is the size that a path gives there.
 abbrev pub segmentsAt : List Model → ℕ → ℕ → ℕ

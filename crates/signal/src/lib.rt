@@ -3,20 +3,23 @@
 
 ghost use mathlib.Core.Path.{_≡_};
 ghost use mathlib.Core.List.{[], _∷_};
+ghost use Prim.Native.Nat.{_≤_};
 ghost use lib.ListN.{length, replicate};
 ghost use Rattle.path.specs.Refusal.{refusalOf};
 ghost use Rattle.path.specs.Inner.{Held};
 ghost use Rattle.segment.specs.Segment.{Samples16};
-ghost use Rattle.signal.specs.Signal.{signalPath};
+ghost use Rattle.signal.specs.Signal.{pathBy};
 ghost use Rattle.signal.specs.SignalPath.{inputChecks, roomCheck, signalPathChecks, pathBuffers, signalPathOutcome, signalPathOf};
 ghost use Rattle.signal.specs.Split.{splitChecks, splitBuffers, splitOutcome, splitOf};
-ghost use Rattle.signal.specs.Inner.{LossesFrom, Solvable, Solved, SegmentFrom, SegmentedAt};
+ghost use Rattle.signal.specs.Inner.{lossesIn, IsBelow, LossesFrom, PathWritten};
+ghost use Rattle.signal.specs.Inner.{Solvable, Solved, SegmentFrom, SegmentedAt};
 use least::MAX_SEGMENTS;
 use least::SCRATCH_LEN;
 use least::fill_table;
 use least::put_levels;
 use least::smaller;
 use least::trace_back;
+use path::tally;
 use segment::MAX_SAMPLES;
 use select::SelectResult;
 
@@ -121,20 +124,28 @@ fn split_refusal(
     room_refusal(count, sizes_room, losses_room, scratch_room)
 }
 
-// Appends sizes 1 to count in turn. One whose loss is not below that of the last entry is skipped: the append passes it over, or
-// refuses it.
+// Whether a loss is below that of the last of so many entries, whatever their sizes. With no entry it is.
+fn loss_below(losses: &[u64], entries: usize, loss: u64) -> bool
+    requires { ⌜ entries ≤ length (now losses) ⌝ }
+    ensures { λ r. ⌜ IsBelow (now (losses .entry)) entries loss r ⌝ }
+{
+    if entries == 0 {
+        return true;
+    }
+    let last = entries - 1;
+    loss < losses[last]
+}
+
+// Tries sizes 1 to count in turn, by their losses. One whose loss is not below that of the last entry is skipped.
 fn fill_path(
-    samples: &[i16],
     losses: &[u64],
     count: usize,
     path_sizes: &mut [u64],
     path_losses: &mut [u64],
 ) -> usize
-    requires { ⌜ LossesFrom
-        (now samples) (now losses) count
-        (length (now «path_sizes»)) (length (now «path_losses»)) ⌝ }
+    requires { ⌜ LossesFrom (now losses) count (length (now «path_sizes»)) (length (now «path_losses»)) ⌝ }
     ensures { λ r. ⌜ Held
-        (signalPath (now (samples .entry)) count)
+        (pathBy (lossesIn (now (losses .entry))) count)
         (now («path_sizes» .entry)) (now («path_losses» .entry))
         (now («path_sizes» .exit)) (now («path_losses» .exit))
         r count ⌝ }
@@ -143,12 +154,38 @@ fn fill_path(
     let mut i = 0;
     while i < count {
         let size = i as u64 + 1;
-        let appended = path::append(path_sizes, path_losses, entries, size, losses[i]);
-        if appended.refusal == 0 {
-            entries = appended.entries;
+        let loss = losses[i];
+        if loss_below(path_losses, entries, loss) {
+            let found = path::try_model(path_sizes, path_losses, entries, size, loss, tally::none());
+            let kept = found.entries;
+            path_sizes[kept] = size;
+            path_losses[kept] = loss;
+            entries = kept + 1;
         }
         i += 1;
     }
+    entries
+}
+
+// Writes the path of sizes 1 to count, by their losses, to its buffers, with zeros after it as far as count. Returns the number of
+// entries.
+pub fn write_path(
+    losses: &[u64],
+    count: usize,
+    path_sizes: &mut [u64],
+    path_losses: &mut [u64],
+) -> usize
+    requires { ⌜ LossesFrom (now losses) count (length (now «path_sizes»)) (length (now «path_losses»)) ⌝ }
+    ensures { λ r. ⌜ PathWritten
+        (pathBy (lossesIn (now (losses .entry))) count)
+        count
+        (now («path_sizes» .entry)) (now («path_losses» .entry))
+        (now («path_sizes» .exit)) (now («path_losses» .exit))
+        r ⌝ }
+{
+    let entries = fill_path(losses, count, path_sizes, path_losses);
+    path::clear(&mut path_sizes[entries..count]);
+    path::clear(&mut path_losses[entries..count]);
     entries
 }
 
@@ -172,10 +209,7 @@ pub fn make_path(
 {
     let mut losses = [0u64; MAX_SEGMENTS];
     let count = fill_table(samples, max_segments, &mut losses, scratch);
-    let entries = fill_path(samples, &losses, count, path_sizes, path_losses);
-    path::clear(&mut path_sizes[entries..count]);
-    path::clear(&mut path_losses[entries..count]);
-    entries
+    write_path(&losses, count, path_sizes, path_losses)
 }
 
 // Writes the segmentation at the penalty p / q from the path and the table of up to count segments. Returns the path's
