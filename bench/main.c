@@ -6,14 +6,14 @@
 //        main curve [TURNS]    the library's time alone, over the number of samples and the limit
 #include "signals.h"
 #include "split.h"
+#include "tables.h"
 #include <foldwig.h>
 #include <stdbool.h>
 #include <stdio.h>
 #include <stdlib.h>
 #include <string.h>
-#include <time.h>
 
-enum { DRAWS = 6, MAX_SIGNALS = DRAWS * KINDS, PENALTIES = 5, SHORT_SIGNALS = 20000 };
+enum { PENALTIES = 5, SHORT_SIGNALS = 20000 };
 
 // What is wanted at 512 samples and limit 32, of every draw: so many times as fast as the plain implementation on every kind but the
 // alternating one, behind the full table on no more than so many kinds, and nowhere above so many times its time.
@@ -21,25 +21,12 @@ enum { DRAWS = 6, MAX_SIGNALS = DRAWS * KINDS, PENALTIES = 5, SHORT_SIGNALS = 20
 #define WANTED_MOST_OF_FULL 1.2
 enum { WANTED_MOST_BEHIND = 2 };
 
-// The penalty that is timed.
-enum { P = 200000, Q = 3 };
-
-struct signal {
-    enum kind kind;
-    size_t n;
-    int16_t samples[MAX_SAMPLES];
-};
-
 // Number of samples and limit.
 struct shape {
     size_t n, limit;
 };
 
 enum implementation { PLAIN, FULL, OURS, IMPLEMENTATIONS };
-
-struct range {
-    double low, high;
-};
 
 // What a call is lent, and what it left there. The numbers are those of this machine, which keeps the low byte first.
 struct lent {
@@ -63,20 +50,6 @@ static struct split_answer split(enum implementation which, const struct signal 
         sizeof lent->starts, (uint8_t *)lent->levels, sizeof lent->levels, (uint8_t *)lent->path_sizes, sizeof lent->path_sizes,
         (uint8_t *)lent->path_losses, sizeof lent->path_losses, lent->scratch, sizeof lent->scratch);
     return (struct split_answer){r.segments, (int64_t)r.loss};
-}
-
-// All signals of n samples: the kinds in order, and of each its draws. Answers how many they are.
-static int make_signals(struct signal *signals, size_t n)
-{
-    int count = 0;
-    for (enum kind kind = 0; kind < KINDS; kind++)
-        for (unsigned draw = 0; draw < (is_drawn(kind) ? DRAWS : 1); draw++) {
-            signals[count].kind = kind;
-            signals[count].n = n;
-            make_signal(kind, draw, n, signals[count].samples);
-            count++;
-        }
-    return count;
 }
 
 // Whether all implementations give the same segments, loss, starts and levels, and the library's leaves the scratch zero.
@@ -124,14 +97,6 @@ static bool all_same_short(void)
     return true;
 }
 
-// The CPU time of this thread, in microseconds.
-static double now(void)
-{
-    struct timespec t;
-    clock_gettime(CLOCK_THREAD_CPUTIME_ID, &t);
-    return 1e6 * (double)t.tv_sec + 1e-3 * (double)t.tv_nsec;
-}
-
 // The time of a call. Short ones are called several times between two looks at the clock.
 static double time_call(enum implementation which, const struct signal *s, size_t limit)
 {
@@ -162,21 +127,6 @@ static void forget(double least[MAX_SIGNALS][IMPLEMENTATIONS])
             least[i][which] = 1e30;
 }
 
-static void widen(struct range *r, double value)
-{
-    r->low = value < r->low ? value : r->low;
-    r->high = value > r->high ? value : r->high;
-}
-
-// Prints a mean and, where it is wider than one value, the range.
-static void print_range(double mean, struct range r, int digits)
-{
-    printf(" %.*f", digits, mean);
-    if (r.low < r.high)
-        printf(" (%.*f to %.*f)", digits, r.low, digits, r.high);
-    printf(" |");
-}
-
 // Prints the rows of a table, one for each kind: the mean times of its draws and their ratios, each with the range over the draws. Says
 // whether what is wanted is reached on every draw.
 static bool print_rows(const struct signal *signals, int count, double least[][IMPLEMENTATIONS], int digits)
@@ -184,7 +134,7 @@ static bool print_rows(const struct signal *signals, int count, double least[][I
     bool reached = true;
     int behind = 0;
     for (int i = 0; i < count;) {
-        const struct range none = {1e30, 0};
+        const struct range none = empty_range;
         enum kind kind = signals[i].kind;
         struct range times[IMPLEMENTATIONS] = {none, none, none}, of_plain = none, of_full = none;
         double sums[IMPLEMENTATIONS] = {0, 0, 0};
@@ -254,7 +204,7 @@ static int print_curve(int turns)
             take_turn(signals, make_signals(signals, shapes[i].n), shapes[i].limit, OURS, least[i]);
     puts("| samples | limit | flow, 15 levels | least of all | greatest of all | on |\n|---|---|---|---|---|---|");
     for (int i = 0; i < POINTS; i++) {
-        struct range all = {1e30, 0};
+        struct range all = empty_range;
         double sum = 0;
         int count = make_signals(signals, shapes[i].n), dearest = 0;
         for (int j = 0; j < count; j++) {

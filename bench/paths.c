@@ -1,12 +1,12 @@
 // Times builds and appends in C, at several numbers of models and with short and long buffers, and prints a table. A time is the
 // least CPU time of one call over all turns.
 // Usage: paths [TURNS]
+#include "tables.h"
 #include <foldwig.h>
 #include <stdbool.h>
 #include <stdio.h>
 #include <stdlib.h>
 #include <string.h>
-#include <time.h>
 
 enum { MODELS = FOLDWIG_MAX_MODELS, PLACES = 4 * FOLDWIG_MAX_MODELS };
 
@@ -26,14 +26,6 @@ static void make_models(size_t n)
         put(sizes, FOLDWIG_SIZE_LEN, i, i + 1);
         put(losses, FOLDWIG_LOSS_LEN, i, (n - i) * (n - i));
     }
-}
-
-// The CPU time of this thread, in microseconds.
-static double now(void)
-{
-    struct timespec t;
-    clock_gettime(CLOCK_THREAD_CPUTIME_ID, &t);
-    return 1e6 * (double)t.tv_sec + 1e-3 * (double)t.tv_nsec;
 }
 
 static struct foldwig_path_result build(size_t n, size_t places)

@@ -1,44 +1,7 @@
 // Segmentation of a signal by the textbook dynamic programme, as an engineer would write it in C: 64-bit integers, prefix sums, a full
 // table of least losses and one of starts, every start of a last segment tried (max_segments * n * n / 2 of them).
+#include "loss.h"
 #include "split.h"
-
-// Prefix sums: of the first j samples, and of their squares.
-struct sums {
-    int64_t sum[MAX_SAMPLES + 1];
-    int64_t square[MAX_SAMPLES + 1];
-};
-
-static void add_up(struct sums *s, const int16_t *samples, size_t n)
-{
-    s->sum[0] = 0;
-    s->square[0] = 0;
-    for (size_t i = 0; i < n; i++) {
-        int64_t x = samples[i];
-        s->sum[i + 1] = s->sum[i] + x;
-        s->square[i + 1] = s->square[i] + x * x;
-    }
-}
-
-// The whole number nearest sum / len; of two equally near, the lower.
-static int64_t level_of(int64_t sum, int64_t len)
-{
-    int64_t floor = sum / len;
-    int64_t rest = sum % len;
-    if (rest < 0) {
-        floor--;
-        rest += len;
-    }
-    return 2 * rest > len ? floor + 1 : floor;
-}
-
-// The loss of samples from + 1 to to as one segment.
-static int64_t segment_loss(const struct sums *s, size_t from, size_t to)
-{
-    int64_t len = (int64_t)(to - from);
-    int64_t sum = s->sum[to] - s->sum[from];
-    int64_t level = level_of(sum, len);
-    return s->square[to] - s->square[from] - 2 * level * sum + len * level * level;
-}
 
 struct split_answer plain_split(const int16_t *samples, size_t n, size_t max_segments, int64_t p, int64_t q, uint16_t *starts,
                                 int16_t *levels)
@@ -48,7 +11,9 @@ struct split_answer plain_split(const int16_t *samples, size_t n, size_t max_seg
     uint16_t before[MAX_SEGMENTS + 1][MAX_SAMPLES + 1];   // the number of samples before the last of them
     size_t count = max_segments < n ? max_segments : n;
 
-    add_up(&s, samples, n);
+    begin_sums(&s);
+    for (size_t i = 0; i < n; i++)
+        add_sample(&s, i, samples[i]);
     for (size_t j = 1; j <= n; j++)
         least[1][j] = segment_loss(&s, 0, j);
     for (size_t k = 2; k <= count; k++)

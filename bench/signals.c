@@ -34,15 +34,15 @@ static int16_t clip(int value)
     return (int16_t)(value < INT16_MIN ? INT16_MIN : value > INT16_MAX ? INT16_MAX : value);
 }
 
-bool is_drawn(enum kind kind)
+unsigned draws_of(enum kind kind)
 {
-    return kind != RAMP && kind != CONSTANT && kind != SAWTOOTH && kind != ALTERNATING;
+    return kind != RAMP && kind != CONSTANT && kind != SAWTOOTH && kind != ALTERNATING ? DRAWS : 1;
 }
 
 // A flow that holds up to so many levels, each from a random sample on, with noise that grows with the level.
 static void make_flow(int levels, int n, int16_t *samples)
 {
-    bool changes[512] = {true};
+    bool changes[MAX_SAMPLES] = {true};
     int level = 0;
     for (int i = 1; i < levels; i++)
         changes[random_in(1, n - 1)] = true;
@@ -84,7 +84,7 @@ static int16_t sample_of(enum kind kind, int i, int n, int *carried)
     }
 }
 
-void make_signal(enum kind kind, unsigned draw, size_t n, int16_t *samples)
+static void make_signal(enum kind kind, unsigned draw, size_t n, int16_t *samples)
 {
     int carried = 0;
     state = 88172645463325252u ^ (1 + (uint64_t)draw) * 0x9e3779b97f4a7c15u;
@@ -95,4 +95,18 @@ void make_signal(enum kind kind, unsigned draw, size_t n, int16_t *samples)
     else
         for (int i = 0; i < (int)n; i++)
             samples[i] = sample_of(kind, i, (int)n, &carried);
+}
+
+int make_signals(struct signal *signals, size_t n)
+{
+    int count = 0;
+    for (enum kind kind = 0; kind < KINDS; kind++)
+        for (unsigned draw = 0; draw < draws_of(kind); draw++) {
+            signals[count].kind = kind;
+            signals[count].draw = draw;
+            signals[count].n = n;
+            make_signal(kind, draw, n, signals[count].samples);
+            count++;
+        }
+    return count;
 }

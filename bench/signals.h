@@ -5,6 +5,9 @@
 #include <stddef.h>
 #include <stdint.h>
 
+// The most samples of a signal, and the draws of a kind whose signals differ from draw to draw.
+enum { MAX_SAMPLES = 512, DRAWS = 6 };
+
 enum kind {
     RANDOM,
     STEPS,
@@ -23,11 +26,21 @@ enum kind {
 
 extern const char *const kind_names[KINDS];
 
-// Whether the signals of a kind differ from draw to draw.
-bool is_drawn(enum kind kind);
+enum { MAX_SIGNALS = DRAWS * KINDS };
 
-// A signal of n samples, 2 to 512. What it has of chance depends on the kind, the draw and n alone.
-void make_signal(enum kind kind, unsigned draw, size_t n, int16_t *samples);
+struct signal {
+    enum kind kind;
+    unsigned draw;      // from 0 on
+    size_t n;
+    int16_t samples[MAX_SAMPLES];
+};
+
+// How many draws a kind has: 1 where its signals have nothing of chance.
+unsigned draws_of(enum kind kind);
+
+// All signals of n samples, 2 to 512: the kinds in order, and of each its draws. What a signal has of chance depends on the kind, the
+// draw and n alone. Answers how many they are.
+int make_signals(struct signal *signals, size_t n);
 
 // A random number from low to high.
 int random_in(int low, int high);

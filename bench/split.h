@@ -2,10 +2,9 @@
 // input.
 #ifndef SPLIT_H
 #define SPLIT_H
-#include <stddef.h>
-#include <stdint.h>
+#include "signals.h"
 
-enum { MAX_SAMPLES = 512, MAX_SEGMENTS = 32 };
+enum { MAX_SEGMENTS = 32 };
 
 // A segmentation: the number of segments and their loss. Starts and levels are written to the caller's arrays.
 struct split_answer {

@@ -1,5 +1,6 @@
-// A controller of one line. It keeps the line's signal as bytes while samples come in, asks for the path when the harvest closes,
-// so that all can see which penalty leads to how many segments, and splits the signal at the penalty that is voted.
+// A controller of one line. It keeps the line's signal and its table as bytes while samples come in, and shows the path so far from
+// time to time. When the harvest closes it asks for the path with more segments, so that all can see which penalty leads to how
+// many, and splits the signal at the penalty that is voted.
 // Usage: controller P Q [P Q ...] < SAMPLES
 // The samples are whole numbers in decimal. The penalties P / Q are tried in turn until one is accepted.
 #include <foldwig.h>
@@ -8,10 +9,14 @@
 #include <stdlib.h>
 #include <string.h>
 
-// The signal of the line so far, two bytes to a sample, and the number of its samples.
+// While samples come in, the path so far is shown after every so many.
+enum { SHOWN_EVERY = 8 };
+
+// The signal of the line so far, two bytes to a sample, the number of its samples, and the table that is extended by each of them.
 struct line {
     uint8_t samples[FOLDWIG_MAX_SAMPLES * FOLDWIG_SAMPLE_LEN];
     size_t count;
+    uint8_t table[FOLDWIG_TABLE_LEN];
 };
 
 // A path in its two buffers, and the number of its entries.
@@ -46,10 +51,40 @@ static void print_refusal(const char *what, uint64_t refusal)
     printf("%s refused: %s (%" PRIu64 ")\n", what, refusal < FOLDWIG_REFUSALS ? texts[refusal] : "unknown", refusal);
 }
 
-// Keeps a sample at the end of the signal. It answers 0 if the signal is full or the sample has more than 16 bits.
+// Prints the path so far on one line.
+static void print_sizes_and_losses(const struct path *path, size_t samples)
+{
+    printf("after %zu samples: sizes", samples);
+    for (size_t i = 0; i < path->entries; i++)
+        printf(" %" PRIu64, item(path->sizes, 2, i));
+    printf(", losses");
+    for (size_t i = 0; i < path->entries; i++)
+        printf(" %" PRIu64, item(path->losses, 8, i));
+    printf("\n");
+}
+
+// Extends the table by a sample that is about to be kept. It answers 0 if that is refused.
+static int extend(struct line *line, int16_t sample)
+{
+    struct path path;
+    struct foldwig_extend_result r =
+        foldwig_extend(line->samples, line->count * FOLDWIG_SAMPLE_LEN, sample, FOLDWIG_MAX_STREAM_SEGMENTS, line->table,
+                       sizeof line->table, path.sizes, sizeof path.sizes, path.losses, sizeof path.losses);
+    if (r.refusal != FOLDWIG_ACCEPTED) {
+        print_refusal("sample", r.refusal);
+        return 0;
+    }
+    path.entries = r.entries;
+    if ((line->count + 1) % SHOWN_EVERY == 0)
+        print_sizes_and_losses(&path, line->count + 1);
+    return 1;
+}
+
+// Keeps a sample at the end of the signal. It answers 0 if the signal is full, if the sample has more than 16 bits or if the
+// table can't be extended by it.
 static int keep(struct line *line, long sample)
 {
-    if (line->count == FOLDWIG_MAX_SAMPLES || sample < -32768 || sample > 32767)
+    if (line->count == FOLDWIG_MAX_SAMPLES || sample < -32768 || sample > 32767 || !extend(line, (int16_t)sample))
         return 0;
     line->samples[2 * line->count] = (uint8_t)((unsigned long)sample & 255);
     line->samples[2 * line->count + 1] = (uint8_t)((unsigned long)sample >> 8 & 255);

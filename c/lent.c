@@ -8,8 +8,8 @@
 enum { MOST_MISMATCHES = 10 };
 
 // How many byte strings each call is lent, and how many of these, the first ones, it only reads.
-static const int lent_to[CALLS] = {2, 4, 2, 4, 4, 6};
-static const int only_read[CALLS] = {0, 2, 2, 2, 1, 1};
+static const int lent_to[CALLS] = {2, 4, 2, 4, 4, 6, 4, 4};
+static const int only_read[CALLS] = {0, 2, 2, 2, 1, 1, 1, 2};
 
 // A buffer, as the call gets it and as the reference does.
 struct lent {
@@ -20,10 +20,11 @@ struct lent {
 static struct lent lent[BUFFERS];
 static unsigned long calls[CALLS], mismatches;
 static unsigned long refusals[CALLS][FOLDWIG_REFUSALS];             // how often a call answered a number
-static unsigned long met[CALLS][FOLDWIG_REFUSALS][FOLDWIG_REFUSALS];    // how often two causes held at once
+static unsigned long met[CALLS][CAUSES][CAUSES];                    // how often two causes held at once
 static unsigned long nulls[CALLS][BUFFERS];                         // how often a byte string was lent as null
 static unsigned long passed_over[CALLS];                            // how many models were passed over
-static const char *const names[CALLS] = {"append", "build", "select", "breakpoints", "signal_path", "split"};
+static const char *const names[CALLS] = {"append",      "build", "select", "breakpoints",
+                                         "signal_path", "split", "extend", "split_from"};
 
 // ---- Buffers
 
@@ -51,6 +52,38 @@ struct bytes fresh(int i, size_t len)
         memcpy(lent[i].copy + j, &r, len - j < 8 ? len - j : 8);
     }
     return buffer(i);
+}
+
+void lengthen(int which, size_t by)
+{
+    static uint8_t kept[MOST_BYTES];
+    size_t len = buffer(which).len;
+    memcpy(kept, buffer(which).at, len);
+    memcpy(fresh(which, len + by).at, kept, len);
+}
+
+void make_odd(int which, int buffers)
+{
+    if (which < buffers)
+        lengthen(which, 1);
+}
+
+void draw_samples(int which, size_t n, enum drawing drawing)
+{
+    struct bytes samples = fresh(which, 2 * n);
+    int64_t values = 2 + (int64_t)below(5), low = -(int64_t)below(5), level = 0;
+    for (size_t i = 0; i < n; i++) {
+        int64_t x = low + (int64_t)below((uint64_t)values);
+        if (drawing == ALL)
+            x = (int64_t)below(65536) - 32768;
+        else if (drawing == EXTREMES)
+            x = one_in(2) ? -32768 : 32767;
+        else if (drawing == STEPS)
+            x = level = i == 0 || one_in(6) ? (int64_t)below(41) - 20 : level;
+        else if (drawing == DRIFT)
+            x = level += (int64_t)below(7) - 3;
+        put_item(samples, 2, i, (uint64_t)x);
+    }
 }
 
 // Lends a buffer: flush against the page behind it, flush against the one before it, or somewhere between.
@@ -163,8 +196,8 @@ static void check(enum call call, const struct answers *answers, unsigned causes
         check_buffer(call, i);
     if (answers->wanted[0] < FOLDWIG_REFUSALS)
         refusals[call][answers->wanted[0]]++;
-    for (int a = 1; a < FOLDWIG_REFUSALS; a++)
-        for (int b = a + 1; b < FOLDWIG_REFUSALS; b++)
+    for (int a = 1; a < CAUSES; a++)
+        for (int b = a + 1; b < CAUSES; b++)
             met[call][a][b] += causes >> a & causes >> b & 1;
 }
 
@@ -263,22 +296,62 @@ struct foldwig_split_result compare_split(uint64_t max_segments, uint64_t p, uin
     return wanted;
 }
 
+struct foldwig_extend_result compare_extend(int16_t sample, uint64_t max_segments)
+{
+    struct foldwig_extend_result got, wanted;
+    unsigned causes;
+    lend_all(EXTEND);
+    got = foldwig_extend(LENT(0), sample, max_segments, LENT(1), LENT(2), LENT(3));
+    wanted = reference_extend(buffer(0), sample, max_segments, buffer(1), buffer(2), buffer(3), &causes);
+    struct answers a = {2,
+                        2,
+                        {(uint16_t)sample, max_segments, 0},
+                        {got.refusal, got.entries, 0, 0},
+                        {wanted.refusal, wanted.entries, 0, 0}};
+    check(EXTEND, &a, causes);
+    return wanted;
+}
+
+struct foldwig_split_from_result compare_split_from(uint64_t max_segments, uint64_t p, uint64_t q)
+{
+    struct foldwig_split_from_result got, wanted;
+    unsigned causes;
+    lend_all(SPLIT_FROM);
+    got = foldwig_split_from(LENT(0), max_segments, p, q, LENT(1), LENT(2), LENT(3));
+    wanted = reference_split_from(buffer(0), max_segments, p, q, buffer(1), buffer(2), buffer(3), &causes);
+    struct answers a = {3,
+                        3,
+                        {max_segments, p, q},
+                        {got.refusal, got.segments, got.loss, 0},
+                        {wanted.refusal, wanted.segments, wanted.loss, 0}};
+    check(SPLIT_FROM, &a, causes);
+    return wanted;
+}
+
 // ---- The summary
 
-// The refusals of each call in their order, ended by 0.
-static const int orders[CALLS][8] = {
-    {11, 8, 5, 6, 7, 9, 0}, {11, 1, 2, 5, 6, 7, 9, 0}, {11, 8, 10, 4, 0},
-    {11, 8, 9, 0},          {11, 1, 2, 3, 9, 0},       {11, 1, 2, 3, 4, 9, 0},
+// The causes of each call in their order, ended by 0.
+static const int orders[CALLS][9] = {
+    {11, 8, 5, 6, 7, 9, 0},
+    {11, 1, 2, 5, 6, 7, 9, 0},
+    {11, 8, 10, 4, 0},
+    {11, 8, 9, 0},
+    {11, 1, 2, 3, 9, 0},
+    {11, 1, 2, 3, 4, 9, 0},
+    {11, 2, 3, SHORT_TABLE, 12, 9, 0},
+    {11, 1, 2, 3, SHORT_TABLE, 12, 4, 9, 0},
 };
 
 // Whether two causes of a call can hold at once. A list can't be both empty and too long, an empty build has no model that is bad
-// and needs no room, and an empty path is never a bad one.
+// and needs no room, an empty path is never a bad one, and no samples need no room for segments and no column of a table.
 static int can_meet(enum call call, int a, int b)
 {
     if (a == 1 && b == 2)
         return 0;
     if (call == BUILD && a == 1)
         return b == 11;
+    if (call == SPLIT_FROM && a == 1)
+        return b != 9 && b != 12;
     return !(a == 8 && b == 10);
 }
 
@@ -296,7 +369,7 @@ static int unseen(enum call call)
             count++;
         }
     for (const int *a = orders[call]; *a != 0; a++) {
-        if (refusals[call][*a] == 0) {
+        if (*a != SHORT_TABLE && refusals[call][*a] == 0) {
             printf("not seen: %s with refusal %d\n", names[call], *a);
             count++;
         }
@@ -312,8 +385,8 @@ static int unseen(enum call call)
 static int pairs_met(enum call call)
 {
     int count = 0;
-    for (int a = 1; a < FOLDWIG_REFUSALS; a++)
-        for (int b = a + 1; b < FOLDWIG_REFUSALS; b++)
+    for (int a = 1; a < CAUSES; a++)
+        for (int b = a + 1; b < CAUSES; b++)
             count += met[call][a][b] > 0;
     return count;
 }

@@ -10,10 +10,10 @@
 #include "reference.h"
 #include "span.h"
 
-enum { BUFFERS = 6, MOST_BYTES = 1 << 16 };
+enum { BUFFERS = 6, MOST_BYTES = 3 << 15 };
 
-// The six calls, as the tallies number them.
-enum call { APPEND, BUILD, SELECT, BREAKPOINTS, SIGNAL_PATH, SPLIT, CALLS };
+// The eight calls, as the tallies number them.
+enum call { APPEND, BUILD, SELECT, BREAKPOINTS, SIGNAL_PATH, SPLIT, EXTEND, SPLIT_FROM, CALLS };
 
 // Maps the buffers. A test has to do this once.
 void map_buffers(void);
@@ -24,6 +24,18 @@ struct bytes fresh(int buffer, size_t len);
 // The buffer as it is, for instance as the latest call left it.
 struct bytes buffer(int buffer);
 
+// Makes a buffer longer by some bytes, which are random.
+void lengthen(int which, size_t by);
+
+// Lengthens one of the first so many buffers by a byte; the number of buffers itself stands for none of them.
+void make_odd(int which, int buffers);
+
+// How the samples of a signal are drawn: a few values, all values, the two extremes, steps, a drift.
+enum drawing { FEW, ALL, EXTREMES, STEPS, DRIFT, DRAWINGS };
+
+// Gives a buffer n samples.
+void draw_samples(int which, size_t n, enum drawing drawing);
+
 // Each makes one call with the buffers and compares it.
 struct foldwig_path_result compare_append(uint64_t entries, uint64_t size, uint64_t loss);
 struct foldwig_path_result compare_build(void);
@@ -31,6 +43,8 @@ struct foldwig_select_result compare_select(uint64_t entries, uint64_t p, uint64
 struct foldwig_breakpoints_result compare_breakpoints(uint64_t entries);
 struct foldwig_signal_path_result compare_signal_path(uint64_t max_segments);
 struct foldwig_split_result compare_split(uint64_t max_segments, uint64_t p, uint64_t q);
+struct foldwig_extend_result compare_extend(int16_t sample, uint64_t max_segments);
+struct foldwig_split_from_result compare_split_from(uint64_t max_segments, uint64_t p, uint64_t q);
 
 // Counts a mismatch if something that must be so is not so. After ten mismatches the test ends.
 void expect(int so, const char *what);

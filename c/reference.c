@@ -2,7 +2,7 @@
 #include "reference.h"
 #include <string.h>
 
-enum { MAX_SAMPLES = 512, MAX_SEGMENTS = 32, MAX_MODELS = 4096, MAX_TRIED = 12 };
+enum { MAX_SAMPLES = 512, MAX_SEGMENTS = 32, MAX_MODELS = 4096, MAX_TRIED = 12, ROWS = 16, TABLE_BYTES = 65536 };
 
 static const uint64_t TWO_44 = (uint64_t)1 << 44;
 
@@ -567,13 +567,18 @@ static void programme(size_t n, size_t largest)
     }
 }
 
+static int64_t loss_of(size_t first, size_t last)
+{
+    return loss_at(first, last, level_of(first, last));
+}
+
 // The loss of k segments over n samples with the starts given.
 static int64_t loss_of_starts(size_t k, size_t n)
 {
     int64_t sum = 0;
     for (size_t s = 0; s < k; s++) {
         size_t last = s + 1 < k ? (size_t)given_starts[k][s + 1] - 1 : n - 1;
-        sum += loss_at(given_starts[k][s], last, level_of(given_starts[k][s], last));
+        sum += loss_of(given_starts[k][s], last);
     }
     return sum;
 }
@@ -633,13 +638,18 @@ static unsigned signal_causes(struct bytes samples, uint64_t max_segments, struc
     return causes | cause_if(9, places(path_sizes, path_losses) < largest || scratch.len < 31744);
 }
 
+static void read_samples(struct bytes samples)
+{
+    for (size_t i = 0; i < samples.len / 2; i++)
+        samples_of[i] = get_signed(samples, i);
+}
+
 // Segments a signal and makes its models, of which it answers the number.
 static size_t make_models(struct bytes samples, uint64_t max_segments)
 {
     size_t n = samples.len / 2;
     size_t largest = smaller(n, (size_t)max_segments);
-    for (size_t i = 0; i < n; i++)
-        samples_of[i] = get_signed(samples, i);
+    read_samples(samples);
     if (FAULT == 20)
         cut_greedily(n, largest);
     else if (n <= reference_tries_up_to)
@@ -722,5 +732,184 @@ struct foldwig_split_result reference_split(struct bytes samples, uint64_t max_s
     put_path(path_sizes, path_losses, r.entries, largest);
     put_segments(starts, levels, r.segments, n);
     clear_scratch(scratch);
+    return r;
+}
+
+// ---- Tables. Positions count from 1.
+
+static size_t table_place(size_t size, size_t position)
+{
+    return MAX_SAMPLES * (size - 1) + (position - 1);
+}
+
+static uint64_t table_value(struct bytes table, size_t size, size_t position)
+{
+    return get_item(table, 8, table_place(size, position));
+}
+
+// Whether a value is out of order: not all ones where there are fewer samples than segments, and else more than 2^44.
+static int bad_value(uint64_t value, size_t size, size_t position)
+{
+    if (size > position)
+        return value != UINT64_MAX && FAULT != 50;
+    return value > TWO_44 || (FAULT == 45 && value == TWO_44);
+}
+
+// Whether a value of n samples is out of order. Values that a short table lacks are in order.
+static int damaged(struct bytes table, size_t n, uint64_t max_segments)
+{
+    size_t columns = smaller(FAULT == 35 ? n + 1 : n, MAX_SAMPLES), rows = FAULT == 36 ? ROWS - 1 : ROWS;
+    if (FAULT == 51 && n > 0)
+        columns = smaller(n - 1, MAX_SAMPLES);
+    if (FAULT == 55 && max_segments < ROWS)
+        rows = (size_t)max_segments;
+    for (size_t size = 1; size <= rows; size++)
+        for (size_t position = 1; position <= columns; position++)
+            if (table_place(size, position) < table.len / 8 &&
+                bad_value(table_value(table, size, position), size, position))
+                return 1;
+    return 0;
+}
+
+// The causes that both calls with a table have.
+static unsigned table_causes(struct bytes samples, uint64_t max_segments, struct bytes table)
+{
+    uint64_t most = FAULT == 40 ? 17 : FAULT == 41 ? 15 : 16;
+    unsigned causes = cause_if(11, odd_length(samples, 2) || odd_length(table, 8));
+    causes |= cause_if(3, max_segments == 0 || max_segments > most);
+    causes |= cause_if(SHORT_TABLE, table.len < (FAULT == 42 ? TABLE_BYTES - 8 : TABLE_BYTES));
+    return causes | cause_if(12, damaged(table, samples.len / 2, max_segments));
+}
+
+static uint64_t refusal_of(unsigned causes, const int *order)
+{
+    uint64_t first = first_of(causes, order);
+    return first == SHORT_TABLE ? 9 : first;
+}
+
+// The least value of so many segments that end at a position, over all starts of the last one.
+static uint64_t least_value(struct bytes table, size_t size, size_t position, const uint64_t *last_losses)
+{
+    uint64_t least = UINT64_MAX;
+    if (size == 1)
+        return last_losses[0];
+    for (size_t before = size - 1; before < position; before++) {
+        uint64_t sum = table_value(table, size - 1, before) + last_losses[before];
+        if (FAULT == 56 && before + 1 == position && size < position)
+            continue;
+        if (sum < least)
+            least = sum;
+    }
+    return least;
+}
+
+// Fills the column of a position, as many rows of it as are asked for.
+static void fill_column(struct bytes table, size_t position, size_t rows)
+{
+    static uint64_t last_losses[MAX_SAMPLES];       // of the segment behind so many samples
+    for (size_t before = 0; before < position; before++)
+        last_losses[before] = (uint64_t)loss_of(before, position - 1);
+    for (size_t size = 1; size <= rows; size++) {
+        uint64_t value = FAULT == 34 ? 0 : UINT64_MAX;
+        if (size <= position)
+            value = least_value(table, size, position, last_losses);
+        if (FAULT == 48 && size > 1 && size <= position && value > table_value(table, size - 1, position))
+            value = table_value(table, size - 1, position);
+        put_item(table, 8, table_place(size, position), value);
+    }
+}
+
+// Makes models of the column of a position, and answers their number.
+static size_t column_models(struct bytes table, size_t position, uint64_t max_segments)
+{
+    size_t largest = smaller(smaller(position, (size_t)max_segments), ROWS);
+    for (size_t size = 1; size <= largest; size++) {
+        models[size - 1].size = size;
+        models[size - 1].loss = table_value(table, size, position);
+    }
+    return largest;
+}
+
+struct foldwig_extend_result reference_extend(struct bytes samples, int16_t sample, uint64_t max_segments, struct bytes table,
+                                              struct bytes path_sizes, struct bytes path_losses, unsigned *causes)
+{
+    static const int right[] = {2, 3, SHORT_TABLE, 12, 9, 0};
+    static const int damage_first[] = {2, 3, 12, SHORT_TABLE, 9, 0}, room_first[] = {2, 3, SHORT_TABLE, 9, 12, 0};
+    struct foldwig_extend_result r = {0, 0};
+    size_t n = samples.len / 2, room = places(path_sizes, path_losses), largest;
+    uint64_t needed = max_segments < n + 1 ? max_segments : n + 1;
+    *causes = table_causes(samples, max_segments, table) | cause_if(2, n + 1 > (FAULT == 39 ? MAX_SAMPLES - 1 : MAX_SAMPLES));
+    *causes |= cause_if(11, odd_length(path_sizes, 2) || odd_length(path_losses, 8)) | cause_if(9, room + (FAULT == 52) < needed);
+    r.refusal = refusal_of(*causes, FAULT == 43 ? damage_first : FAULT == 49 ? room_first : right);
+    if (r.refusal != 0)
+        return r;
+    read_samples(samples);
+    samples_of[n] = sample;
+    fill_column(table, n + 1, FAULT == 33 ? smaller((size_t)max_segments, ROWS) : ROWS);
+    if (FAULT == 47)
+        memset(table.at + TABLE_BYTES, 0, table.len - TABLE_BYTES);
+    largest = column_models(table, n + 1, FAULT == 54 && n > 0 && max_segments > n ? n : max_segments);
+    r.entries = winners(largest);
+    put_path(path_sizes, path_losses, r.entries, smaller(FAULT == 46 ? largest - 1 : largest, room));
+    return r;
+}
+
+// How many samples are before the last of so many segments that end at a position, the fewest if several are best.
+static size_t samples_before(struct bytes table, size_t size, size_t position)
+{
+    uint64_t least = UINT64_MAX;
+    size_t best = 0;
+    if (size == 1)
+        return 0;
+    for (size_t before = size - 1; before < position; before++) {
+        uint64_t sum = table_value(table, size - 1, before) + (uint64_t)loss_of(before, position - 1);
+        if (sum < least || (FAULT == 37 && sum == least)) {
+            least = sum;
+            best = before;
+        }
+    }
+    return best;
+}
+
+// Finds the starts of so many segments of n samples, from the last one back.
+static void find_starts(struct bytes table, size_t segments, size_t n)
+{
+    size_t end = n;
+    for (size_t size = segments; size > 0; size--) {
+        end = samples_before(table, size, end);
+        given_starts[segments][size - 1] = (uint16_t)end;
+    }
+}
+
+struct foldwig_split_from_result reference_split_from(struct bytes samples, uint64_t max_segments, uint64_t p, uint64_t q,
+                                                      struct bytes table, struct bytes starts, struct bytes levels,
+                                                      unsigned *causes)
+{
+    static const int right[] = {1, 2, 3, SHORT_TABLE, 12, 4, 9, 0};
+    static const int damage_first[] = {1, 2, 3, 12, SHORT_TABLE, 4, 9, 0}, penalty_first[] = {1, 2, 3, SHORT_TABLE, 4, 12, 9, 0};
+    static const int room_first[] = {1, 2, 3, SHORT_TABLE, 9, 12, 4, 0};
+    struct foldwig_split_from_result r = {0, 0, 0};
+    size_t n = samples.len / 2, room = smaller(starts.len / 2, levels.len / 2), largest;
+    uint64_t needed = max_segments < n ? max_segments : n;
+    *causes = table_causes(samples, max_segments, table) | cause_if(1, n == 0) | cause_if(2, n > MAX_SAMPLES);
+    *causes |= cause_if(11, odd_length(starts, 2) || odd_length(levels, 2)) | cause_if(4, bad_penalty(p, q));
+    *causes |= cause_if(9, FAULT != 53 && room < needed);
+    r.refusal = refusal_of(*causes, FAULT == 43   ? damage_first
+                                    : FAULT == 44 ? penalty_first
+                                    : FAULT == 49 ? room_first
+                                                  : right);
+    if (r.refusal != 0)
+        return r;
+    read_samples(samples);
+    largest = column_models(table, n, max_segments);
+    r.segments = models[cheapest(models, largest, p, q)].size;
+    if (FAULT == 53 && room < r.segments) {
+        r.refusal = 9;
+        r.segments = 0;
+        return r;
+    }
+    find_starts(table, r.segments, n);
+    r.loss = FAULT == 38 ? table_value(table, r.segments, n) : (uint64_t)loss_of_starts(r.segments, n);
+    put_segments(starts, levels, r.segments, n);
     return r;
 }

@@ -1,5 +1,6 @@
-// A reference for the six calls, in plain C, written from docs/RULES.md. It finds a path by asking of each model whether it can
-// be the cheapest, a short signal's segmentations by trying all of them, and a long one's by a plain dynamic programme.
+// A reference for the eight calls, in plain C, written from docs/RULES.md. It finds a path by asking of each model whether it can
+// be the cheapest, a short signal's segmentations by trying all of them, and a long one's by a plain dynamic programme. On a table
+// it tries every start of a last segment and adds up the squares of each segment anew.
 //
 // The macro FAULT plants one fault in the reference, which a test must then notice:
 //
@@ -35,6 +36,30 @@
 //   30  a build needs no room for models that are passed over
 //   31  the zeros behind a build's path go no further than the number of models that were not passed over
 //   32  an append puts a model that is to be passed over behind the path
+//   33  an extension fills its column as far as the limit only
+//   34  an extension writes 0 where a mark is due
+//   35  a table is looked at one column past the samples
+//   36  of a table 15 rows are looked at
+//   37  of equally good starts in a table the latest is given
+//   38  a split from a table answers the table's loss
+//   39  an extension finds 511 samples so far too many
+//   40  with a table the limit 17 is accepted
+//   41  with a table the limit 16 is refused
+//   42  a table one item short is accepted
+//   43  a damaged table is found before a short one
+//   44  a bad penalty is found before a damaged table
+//   45  a table's value of 2^44 is damage
+//   46  the zeros behind an extension's path end one place early
+//   47  an extension zeros the bytes past a table's least length
+//   48  a new value is at most that of the size below
+//   49  short buffers are found before a damaged table
+//   50  a mark that is missing is no damage
+//   51  of a table the last sample's column is not looked at
+//   52  an extension needs a place less for its path
+//   53  a split from a table needs room for the starts and levels that it writes only
+//   54  an extension's largest size does not count the new sample
+//   55  of a table only as many rows as the limit says are looked at
+//   56  no new segment consists of the new sample alone, if the size allows it
 #ifndef REFERENCE_H
 #define REFERENCE_H
 
@@ -54,6 +79,9 @@ struct model {
     uint64_t size;
     uint64_t loss;
 };
+
+// The number that stands for a short table among causes. Its refusal is 9, as for other buffers, but comes before 12.
+enum { SHORT_TABLE = FOLDWIG_REFUSALS, CAUSES };
 
 // Signals of up to this many samples are segmented by trying all segmentations, at most 12.
 extern size_t reference_tries_up_to;
@@ -87,5 +115,10 @@ struct foldwig_signal_path_result reference_signal_path(struct bytes samples, ui
 struct foldwig_split_result reference_split(struct bytes samples, uint64_t max_segments, uint64_t p, uint64_t q,
                                             struct bytes starts, struct bytes levels, struct bytes path_sizes,
                                             struct bytes path_losses, struct bytes scratch, unsigned *causes);
+struct foldwig_extend_result reference_extend(struct bytes samples, int16_t sample, uint64_t max_segments, struct bytes table,
+                                              struct bytes path_sizes, struct bytes path_losses, unsigned *causes);
+struct foldwig_split_from_result reference_split_from(struct bytes samples, uint64_t max_segments, uint64_t p, uint64_t q,
+                                                      struct bytes table, struct bytes starts, struct bytes levels,
+                                                      unsigned *causes);
 
 #endif

@@ -9,10 +9,11 @@
 #include <string.h>
 #include <sys/mman.h>
 
-enum { STACK = 1 << 20, MARGIN = 512, PAINT = 0x5d, MODELS = 4096, CALLS = 10 };
+enum { STACK = 1 << 20, MARGIN = 512, PAINT = 0x5d, MODELS = 4096, CALLS = 12 };
 
 // The inputs, all of the largest lengths: models that all stay on the path and a signal that goes up and down; models on a line,
-// which drop each other, and a signal of one level; a path with a bad last entry and a limit that is refused.
+// which drop each other, and a signal of one level; a path with a bad last entry and a limit that is refused. Each column of the
+// table has values that stay or drop in the same way.
 enum { STAYING, DROPPING, REFUSED, INPUTS };
 
 static uint64_t limit;
@@ -20,6 +21,7 @@ static uint8_t sizes[2 * MODELS], losses[8 * MODELS], path_sizes[2 * MODELS], pa
 static struct foldwig_entry models[MODELS], entries[MODELS];
 static uint64_t numerators[MODELS], denominators[MODELS];
 static uint8_t samples[2 * FOLDWIG_MAX_SAMPLES], starts[64], levels[64], scratch[FOLDWIG_SCRATCH_LEN];
+static uint8_t table[FOLDWIG_TABLE_LEN];
 static uint8_t *stack;
 
 static void put(uint8_t *at, size_t width, uint64_t value)
@@ -28,8 +30,18 @@ static void put(uint8_t *at, size_t width, uint64_t value)
         at[j] = (uint8_t)(value >> (8 * j));
 }
 
+static void fill_table(int input)
+{
+    for (uint64_t i = 0; i < FOLDWIG_MAX_STREAM_SEGMENTS * FOLDWIG_MAX_SAMPLES; i++) {
+        uint64_t size = i / FOLDWIG_MAX_SAMPLES + 1, position = i % FOLDWIG_MAX_SAMPLES + 1;
+        uint64_t left = FOLDWIG_MAX_STREAM_SEGMENTS - size;
+        put(table + 8 * i, 8, size > position ? UINT64_MAX : input == DROPPING ? left : left * left);
+    }
+}
+
 static void fill(int input)
 {
+    fill_table(input);
     for (uint64_t i = 0; i < MODELS; i++) {
         uint64_t left = MODELS - i;
         put(sizes + 2 * i, 2, input == REFUSED && left <= 2 ? 0 : i + 1);
@@ -98,6 +110,20 @@ static uint64_t call_split(void)
         .refusal;
 }
 
+static uint64_t call_extend(void)
+{
+    return foldwig_extend(samples, sizeof samples - FOLDWIG_SAMPLE_LEN, 7, limit - 16, table, sizeof table, path_sizes, 32,
+                          path_losses, 128)
+        .refusal;
+}
+
+static uint64_t call_split_from(void)
+{
+    return foldwig_split_from(samples, sizeof samples, limit - 16, 0, 1, table, sizeof table, starts, sizeof starts, levels,
+                              sizeof levels)
+        .refusal;
+}
+
 static const struct {
     const char *name;
     uint64_t (*call)(void);
@@ -113,6 +139,8 @@ static const struct {
     {"foldwig_breakpoints_entries", call_breakpoints_entries, FOLDWIG_BREAKPOINTS_ENTRIES_STACK},
     {"foldwig_signal_path", call_signal_path, FOLDWIG_SIGNAL_PATH_STACK},
     {"foldwig_split", call_split, FOLDWIG_SPLIT_STACK},
+    {"foldwig_extend", call_extend, FOLDWIG_EXTEND_STACK},
+    {"foldwig_split_from", call_split_from, FOLDWIG_SPLIT_FROM_STACK},
 };
 
 // A call to measure, its refusal and the bytes of stack that it took.

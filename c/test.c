@@ -1,10 +1,11 @@
-// Compares the six calls with the reference: on worked figures, on random and tied inputs, on flat stretches, which are models
-// with equal losses, at and past every limit, on damaged paths, with lists of unequal and of odd length, and with every pair of
-// refusal causes that can meet.
+// Compares the eight calls with the reference: on worked figures, on random and tied inputs, on flat stretches, which are models
+// with equal losses, at and past every limit, on damaged paths and tables, with lists of unequal and of odd length, and with every
+// pair of refusal causes that can meet. The tests of the calls with a table are in streams.c.
 // Usage: test [SEED]
 // A seed leads to the same calls again if the same compiler is used.
 #define _DEFAULT_SOURCE
 #include "lent.h"
+#include "streams.h"
 #include <pthread.h>
 #include <stdio.h>
 #include <stdlib.h>
@@ -95,15 +96,6 @@ static void put_models(int buffer, size_t n, size_t size_places, size_t loss_pla
         put_item(sizes, 2, i, list[i].size);
     for (size_t i = 0; i < n && i < loss_places; i++)
         put_item(losses, 8, i, list[i].loss);
-}
-
-// Makes a buffer longer by some bytes, which are random.
-static void lengthen(int which, size_t by)
-{
-    static uint8_t kept[MOST_BYTES];
-    size_t len = buffer(which).len;
-    memcpy(kept, buffer(which).at, len);
-    memcpy(fresh(which, len + by).at, kept, len);
 }
 
 static void move_buffer(int from, int to)
@@ -303,27 +295,6 @@ static void random_histories(int turns)
 
 // ---- Signals
 
-// How the samples of a signal are drawn: a few values, all values, the two extremes, steps, a drift.
-enum drawing { FEW, ALL, EXTREMES, STEPS, DRIFT, DRAWINGS };
-
-static void draw_samples(int which, size_t n, enum drawing drawing)
-{
-    struct bytes samples = fresh(which, 2 * n);
-    int64_t values = 2 + (int64_t)below(5), low = -(int64_t)below(5), level = 0;
-    for (size_t i = 0; i < n; i++) {
-        int64_t x = low + (int64_t)below((uint64_t)values);
-        if (drawing == ALL)
-            x = (int64_t)below(65536) - 32768;
-        else if (drawing == EXTREMES)
-            x = one_in(2) ? -32768 : 32767;
-        else if (drawing == STEPS)
-            x = level = i == 0 || one_in(6) ? (int64_t)below(41) - 20 : level;
-        else if (drawing == DRIFT)
-            x = level += (int64_t)below(7) - 3;
-        put_item(samples, 2, i, (uint64_t)x);
-    }
-}
-
 static size_t scratch_length(void)
 {
     return one_in(40) ? FOLDWIG_SCRATCH_LEN - 1 - below(100) : FOLDWIG_SCRATCH_LEN + (one_in(3) ? below(200) : 0);
@@ -371,13 +342,6 @@ static void long_signals(int turns, size_t longest)
 }
 
 // ---- Refusals: the causes of each call are brought together in all ways
-
-// Lengthens one of the first so many buffers by a byte; the number of buffers itself stands for none of them.
-static void make_odd(int which, int buffers)
-{
-    if (which < buffers)
-        lengthen(which, 1);
-}
 
 // The number of entries that is said for a path of n entries with so many places.
 static uint64_t said_entries(int how, size_t n, size_t places)
@@ -875,6 +839,7 @@ static void small_stacks(void)
     on_small_stack(select_at_limit);
     on_small_stack(breakpoints_at_limit);
     on_small_stack(signal_at_limit);
+    on_small_stack(stream_at_limit);
 }
 
 // What one of two threads works on, and the answer and the bytes that its first call left.
@@ -947,6 +912,12 @@ static void wide_lengths(void)
     expect(foldwig_append(a, len, b, len, 1, 600, 3).entries == 2 && a[2] == 88 && b[8] == 3, "a second append in 8 GB");
     expect(foldwig_breakpoints(a, len, b, len, 2, small, 8, small + 8, 2).count == 1 && small[0] == 4 && small[8] == 87,
            "the breakpoint of a path in 8 GB");
+    mprotect(b + FOLDWIG_TABLE_LEN, len - FOLDWIG_TABLE_LEN, PROT_NONE);        // as a table it is not touched there
+    expect(foldwig_extend(a, len, 7, 1, b, len, small, 2, small + 16, 8).refusal == 2, "an extension of 8 GB of samples");
+    expect(foldwig_extend(a, 0, 7, 1, b, len, small, 2, small + 16, 8).entries == 1 && b[0] == 0 && b[4096] == 255,
+           "an extension of a table in 8 GB");
+    expect(foldwig_split_from(a, len, 1, 1, 1, b, len, small, 2, small + 16, 2).refusal == 2, "a split of 8 GB of samples");
+    expect(foldwig_split_from(a, 2, 1, 1, 1, b, len, small, 2, small + 16, 2).segments == 1, "a split from a table in 8 GB");
     munmap(a, len);
     munmap(b, len);
 }
@@ -962,6 +933,7 @@ int main(int argc, char **argv)
     split_figures();
     flat_figures();
     largest_numbers();
+    stream_figures();
     meet_append();
     meet_build();
     meet_select();
@@ -970,10 +942,14 @@ int main(int argc, char **argv)
     random_lists(30000);
     random_histories(6000);
     meet_signals();
+    meet_streams();
     short_signals(80000);
     long_signals(3000, 40);
     long_signals(150, 512);
     full_paths();
+    growing_signals(250, 40);
+    growing_signals(5, 512);
+    other_tables(20000);
     small_stacks();
     two_at_once();
     wide_lengths();

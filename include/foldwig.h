@@ -8,7 +8,7 @@
  *
  *   samples, levels                       two bytes, two's complement
  *   starts, sizes, denominators           two bytes, no sign
- *   losses, numerators                    eight bytes, no sign
+ *   losses, numerators, table values      eight bytes, no sign
  *   scratch                               bytes
  *
  * A byte string is lent as a pointer followed by its length in bytes. The number of its items is the length divided by the width
@@ -18,6 +18,19 @@
  * array of struct foldwig_entry, aligned as C aligns it. Such an array is lent as a pointer followed by the number of its elements,
  * and so are the two arrays of numbers that foldwig_breakpoints_entries writes. What these calls do to the sizes and to the losses
  * is what the others do to two lists of numbers, and their refusals are the same, in the same order, without 11.
+ *
+ * Tables. A signal that still grows is kept with a table, in which foldwig_extend notes what it found for each sample, so that the
+ * next sample takes little time. A table is FOLDWIG_TABLE_LEN bytes: 16 rows of 512 values, row after row. The value for size k
+ * and position j, k from 1 to 16 and j from 1 to 512, stands at byte 8 * (512 * (k - 1) + (j - 1)). It is the least loss that k
+ * segments of the first j samples can have, and all ones, the mark, where k is more than j. So each sample has a column of 16
+ * values. A new table needs no preparation: of n samples the first n columns are looked at, and what the others hold is neither
+ * looked at nor altered, except that the column of a new sample is filled. Of a table that is lent longer, the bytes past
+ * FOLDWIG_TABLE_LEN are not touched. Only bytes are lent: the caller keeps the table and the samples, and may copy them, store them
+ * or go on with them in another process. A copy of both goes on as the original does.
+ * A table is as the calls left it if each of the samples was given to foldwig_extend in turn, from no samples on, under whatever
+ * limits, and nothing else has written to their columns since. With such a table the path and the segments are those that
+ * foldwig_signal_path and foldwig_split give for the samples. With any other table that is not refused the calls work on the
+ * values as they stand.
  *
  * Refusals. No call has a precondition on values: each answers a struct by value, and its first field is 0 if the call was
  * accepted and else a number of enum foldwig_refusal. Several causes may hold at once; the first one in the order given with the
@@ -42,6 +55,7 @@ extern "C" {
 /* Limits. Each is the largest number that is accepted. */
 #define FOLDWIG_MAX_SAMPLES 512                         /* samples of a signal, from 1 on */
 #define FOLDWIG_MAX_SEGMENTS 32                         /* the limit max_segments, from 1 on */
+#define FOLDWIG_MAX_STREAM_SEGMENTS 16                  /* the same for the calls with a table */
 #define FOLDWIG_MAX_MODELS 4096                         /* models of a build, from 1 on */
 #define FOLDWIG_MAX_ENTRIES 4096                        /* entries of a path */
 #define FOLDWIG_MAX_SIZE 65535                          /* a size, from 1 on */
@@ -51,6 +65,9 @@ extern "C" {
 
 /* The least length of the scratch in bytes. */
 #define FOLDWIG_SCRATCH_LEN 31744
+
+/* The least length of a table in bytes. */
+#define FOLDWIG_TABLE_LEN 65536
 
 /* The most stack that each call takes, in bytes, as measured by c/stack.c and rounded up. */
 #define FOLDWIG_APPEND_STACK 66000
@@ -63,6 +80,8 @@ extern "C" {
 #define FOLDWIG_BREAKPOINTS_ENTRIES_STACK 66000
 #define FOLDWIG_SIGNAL_PATH_STACK 17000
 #define FOLDWIG_SPLIT_STACK 17000
+#define FOLDWIG_EXTEND_STACK 17000
+#define FOLDWIG_SPLIT_FROM_STACK 17000
 
 /* The widths of items in bytes. */
 #define FOLDWIG_SAMPLE_LEN 2
@@ -78,7 +97,7 @@ enum foldwig_refusal {
     FOLDWIG_ACCEPTED = 0,           /* The call was accepted. */
     FOLDWIG_NOTHING_GIVEN = 1,      /* The signal has no samples, or the build has no models. */
     FOLDWIG_TOO_MANY = 2,           /* The signal has more than 512 samples, or the build more than 4,096 models. */
-    FOLDWIG_BAD_LIMIT = 3,          /* max_segments is 0 or more than 32. */
+    FOLDWIG_BAD_LIMIT = 3,          /* max_segments is 0 or more than 32, or, with a table, more than 16. */
     FOLDWIG_BAD_PENALTY = 4,        /* p is more than 2^44, or q is 0 or more than 65,535. */
     FOLDWIG_BAD_MODEL = 5,          /* A new model is out of range, or its size or its loss is lacking. */
     FOLDWIG_SIZE_NOT_LARGER = 6,    /* A new size is not larger than the last entry's. */
@@ -86,17 +105,18 @@ enum foldwig_refusal {
     FOLDWIG_BAD_PATH = 8,           /* The path lent is out of range or out of order, or shorter than its number of entries. */
     FOLDWIG_NO_ROOM = 9,            /* A buffer is too short. */
     FOLDWIG_EMPTY_PATH = 10,        /* There is no entry to select. */
-    FOLDWIG_BAD_LENGTH = 11         /* A byte string ends inside an item: its length is not divisible by the width. */
+    FOLDWIG_BAD_LENGTH = 11,        /* A byte string ends inside an item: its length is not divisible by the width. */
+    FOLDWIG_TABLE_DAMAGED = 12      /* In a sample's column a mark is missing, or a value is more than 2^44. */
 };
 
 /* The number of refusals with 0, and a short text for each: the initialiser of an array of so many strings. */
-#define FOLDWIG_REFUSALS 12
+#define FOLDWIG_REFUSALS 13
 #define FOLDWIG_REFUSAL_TEXTS                                                                                                    \
     {                                                                                                                            \
         "accepted", "no samples or no models", "too many samples or models", "limit out of range", "penalty out of range",       \
             "new model out of range or incomplete", "new size not larger than the last", "new loss larger than the last",        \
             "path out of range, out of order or too long", "buffer too short", "path without entries",                           \
-            "length not a whole number of items"                                                                                 \
+            "length not a whole number of items", "table damaged"                                                                \
     }
 
 /* A model, or an entry of a path. */
@@ -138,6 +158,19 @@ struct foldwig_split_result {
     uint64_t segments;  /* how many segments there are */
     uint64_t loss;      /* the loss of all segments together */
     uint64_t entries;   /* how many entries the path has */
+};
+
+/* The answer of an extension. */
+struct foldwig_extend_result {
+    uint64_t refusal;
+    uint64_t entries;   /* how many entries the path has */
+};
+
+/* The answer of a split from a table. */
+struct foldwig_split_from_result {
+    uint64_t refusal;
+    uint64_t segments;  /* how many segments there are */
+    uint64_t loss;      /* the loss of all segments together */
 };
 
 /*
@@ -245,6 +278,38 @@ struct foldwig_split_result foldwig_split(const uint8_t *samples, size_t samples
                                           uint64_t q, uint8_t *starts, size_t starts_len, uint8_t *levels, size_t levels_len,
                                           uint8_t *path_sizes, size_t path_sizes_len, uint8_t *path_losses,
                                           size_t path_losses_len, uint8_t *scratch, size_t scratch_len);
+
+/*
+ * Extends a table by one more sample, and gives the path of all samples with it. samples holds those so far, perhaps none. The
+ * column of the new sample is filled, all 16 values under any limit: for one segment its loss, and for a larger size the least
+ * sum, over the places where its last segment can start, of the value for one segment fewer before that and of the last segment's
+ * loss. The path is made of the new column's values for the sizes from 1 to max_segments, at most the number of samples with the
+ * new one; a size whose value is not below the last entry's loss is skipped. It is written to the front of path_sizes and
+ * path_losses, with zeros behind it as far as the largest of these sizes. All other places and all other bytes of the table stay.
+ * The call does not append the sample to samples: the caller does so before the next call.
+ * Refusals, in order: 11, 2 if the samples with the new one are more than 512, 3, 9 for a table that is too short, 12, 9. For 12
+ * all 16 rows of the columns of the samples so far are looked at, under any limit. The path's buffers need as many places as the
+ * smaller of max_segments and the number of samples with the new one.
+ * Stack: below 17 KB.
+ */
+struct foldwig_extend_result foldwig_extend(const uint8_t *samples, size_t samples_len, int16_t sample, uint64_t max_segments,
+                                            uint8_t *table, size_t table_len, uint8_t *path_sizes, size_t path_sizes_len,
+                                            uint8_t *path_losses, size_t path_losses_len);
+
+/*
+ * Splits the samples at the penalty p / q with the table that foldwig_extend has filled for all of them. It selects the number of
+ * segments from the path that the last sample's column gives under max_segments. The last segment starts at the place that makes
+ * the sum of foldwig_extend least, at the earliest of several; so does the one before it among the samples that are left, and so
+ * on. The starts, counted from 1, and the levels go to the front of two buffers, and the rest of both stays. The loss is the sum
+ * of the segments' own losses, whatever the table says. The table is only read.
+ * Refusals, in order: 11, 1, 2, 3, 9 for a table that is too short, 12, 4, 9. For 12 all 16 rows of the columns of all samples are
+ * looked at, under any limit. starts and levels need as many places as the smaller of max_segments and the number of samples, even
+ * if fewer segments come out.
+ * Stack: below 17 KB.
+ */
+struct foldwig_split_from_result foldwig_split_from(const uint8_t *samples, size_t samples_len, uint64_t max_segments, uint64_t p,
+                                                    uint64_t q, const uint8_t *table, size_t table_len, uint8_t *starts,
+                                                    size_t starts_len, uint8_t *levels, size_t levels_len);
 
 #ifdef __cplusplus
 }

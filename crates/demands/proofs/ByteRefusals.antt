@@ -64,7 +64,7 @@ module _ {B : Type 0} (refusal : B → ℕ) (refused : ℕ → B) (d : Check) (c
 module _ {A B : Type 0} {checks : List Check} {refusal : A → ℕ} {refused : ℕ → A} {o : A} (r : RefusesByChecks checks refusal refused o)
     (encode : A → B) (number : B → ℕ) (left : ℕ → B) (same : (x : A) → number (encode x) ≡ refusal x) (is : (c : ℕ) → number (left c) ≡ c)
   where
-    refuses-encoded : (first : List Check) → numbered first ≡ true → (AllPass first → (c : ℕ) → encode (refused c) ≡ left c)
+    pub refuses-encoded : (first : List Check) → numbered first ≡ true → (AllPass first → (c : ℕ) → encode (refused c) ≡ left c)
         → RefusesByChecks (first ++ checks) number left (byChecks first left (encode o))
     unfolding byChecks refusalOf
     refuses-encoded [] n back =
@@ -88,7 +88,7 @@ module _ {A B : Type 0} {checks : List Check} {refusal : A → ℕ} {refused : �
             (one-fails number left d (ds ++ checks) h p is)
 
 -- Of three that hold, the last two.
-last-two : (a b c : Bool) → (a && b && c) ≡ true → (b ≡ true) × (c ≡ true)
+pub last-two : (a b c : Bool) → (a && b && c) ≡ true → (b ≡ true) × (c ≡ true)
 last-two a b c h = let w = both (a && b) c h in (both a b (w .0) .1, w .1)
 
 -- Two strings of whole items are got back from their numbers.

@@ -30,7 +30,7 @@ use Rattle.report.specs.Lines.{refusalLine, pathLine, penaltyLine}
 use Rattle.report.specs.Report.{State, start, recorded, limited, Turn, goes, stops, signalTurn, limitTurn, penaltyTurn, turnOf, ended, printed, lastPart, reportFrom, inputLen, reportText, reportPath, answerText, ReportOutcome, reportOf}
 use Rattle.report.proofs.FormsRead.{reads-written, written-read, notes-read}
 use Rattle.report.proofs.Inputs.{report-cons, note-on}
-use Rattle.demands.specs.Signals.{GivesCheapest}
+use Rattle.demands.specs.Signals.{splitParts, GivesCheapest}
 use Rattle.demands.specs.Reports.{OutputRefusals, Line, lineText, linesText, End, endText, Ends, EndClaim, Later, laterLine, Lawful, laterText, Each, endedLines, inputOf, OrderedClaim, roomy, AnswerClaim, PathLineClaim, ReadingClaims}
 use Rattle.demands.proofs.Signals.{gives}
 use Rattle.demands.proofs.Tried.{appended, path-sound, tried-or-skipped}
@@ -245,7 +245,7 @@ unfolding byChecks refusalOf
 answer-claim xs k p q r = (accepted, λ v. rw v refl)
   where
     accepted : validPenalty p q ≡ true → (given : List Piece)
-        × GivesCheapest xs k p q (splitOf xs k p q roomy) given
+        × GivesCheapest xs k p q (splitParts (splitOf xs k p q roomy)) given
         × (answerText xs (reportPath xs k) p q ≡ penaltyLine p q given)
     accepted v =
         let l = and-eq-true-iff (leb 1 k) (leb k maxSegments) .0 (r .limit) in

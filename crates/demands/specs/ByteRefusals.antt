@@ -1,5 +1,5 @@
--- The refusals of the calls on byte strings. The first check of each call is that of whole items, with the number 11, and after it
--- come the checks of the call on the numbers that the strings hold. The lists that a call may write to hold bytes.
+-- The refusals of the calls on paths and signals over byte strings. The first check of each call is that of whole items, with the
+-- number 11, and after it come the checks of the call on the numbers that the strings hold. The lists that a call may write to hold bytes.
 use mathlib.Core.Bool.{_&&_}
 use mathlib.Core.List.{List, _∷_}
 use Prim.Native.Nat.{ℕ}
@@ -19,7 +19,7 @@ use Rattle.foldwig.specs.Numbers.{shorts, longs, signeds}
 use Rattle.foldwig.specs.Paths.{appendBytesOf, buildBytesOf, selectBytesOf, breakpointsBytesOf}
 use Rattle.foldwig.specs.Signals.{pathNumbers, pathWhole, signalPathBytesOf, SplitByteBuffers, splitNumbers, splitWhole, SplitByteOutcome, splitBytesOf}
 
--- Each call on byte strings answers its checks in order, and a refused one gives its number, zeros, and the strings as they were.
+-- Each of these calls answers its checks in order, and a refused one gives its number, zeros, and the strings as they were.
 pub record ByteRefusals : Type 0 where
   pub append : (sizes losses : List ℕ) (n : ℕ) (m : Model) → Bytes sizes → Bytes losses
       → RefusesByChecks

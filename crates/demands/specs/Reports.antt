@@ -21,7 +21,7 @@ use Rattle.report.specs.Forms.{signal, limit, penalty, formText}
 use Rattle.report.specs.Lines.{refusalLine, pathLine, penaltyLine}
 use Rattle.report.specs.Report.{inputLen, reportPath, answerText, reportText, ReportOutcome, outputChecks, reportOf}
 use Rattle.report.specs.Claims.{Written, ReadsWritten, WrittenRead, NotesRead}
-use Rattle.demands.specs.Signals.{GivesCheapest}
+use Rattle.demands.specs.Signals.{splitParts, GivesCheapest}
 
 -- The call is refused by the one check of its output buffer, and then answers a zero and leaves the buffer as it was.
 abbrev pub OutputRefusals : Type 0
@@ -144,7 +144,7 @@ abbrev pub AnswerClaim : Type 0
 AnswerClaim =
     (samples : List ℤ) (k p q : ℕ) → InRange samples k
     → (validPenalty p q ≡ true → (given : List Piece)
-    × GivesCheapest samples k p q (splitOf samples k p q roomy) given
+    × GivesCheapest samples k p q (splitParts (splitOf samples k p q roomy)) given
     × (answerText samples (reportPath samples k) p q ≡ penaltyLine p q given))
     × (validPenalty p q ≡ false → answerText samples (reportPath samples k) p q ≡ refusalLine 4)
 

@@ -4,3 +4,5 @@ pub mod Listings
 pub mod SignalCuts
 pub mod SignalPaths
 pub mod SplitJoins
+pub mod StreamCuts
+pub mod StreamJoins

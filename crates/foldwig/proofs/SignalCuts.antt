@@ -1,6 +1,7 @@
 -- A call on a signal looks at the first 513 samples, which are one too many, and at 32 places of each buffer: what it leaves on longer
 -- lists is what it leaves on their front, with the rest of the buffers after it.
-use mathlib.Core.Path.{_≡_, refl, ap, sym, subst, _∙_}
+use mathlib.Core.Path.{_≡_, refl, ap, sym, subst}
+use mathlib.Core.Bool.{Bool, true, _&&_}
 use mathlib.Core.Logic.{⊎-elim}
 use mathlib.Core.List.{List, [], _∷_, _++_}
 use Prim.Native.Nat.{ℕ, zero, suc, _-_, _≤_, _<_, min}
@@ -10,7 +11,7 @@ use lib.Dec.{leb}
 use lib.IntN.{ℤ}
 use lib.ListN.{length, getD, take, drop, replicate, length-take, take-append-drop}
 use lib.Seq.{take-all}
-use borrow.Author.Tests.{leb-true, le-leb}
+use borrow.Author.Tests.{leb-true}
 use Rattle.path.specs.Model.{Model, valuesOf, sizesOf, lossesOf}
 use Rattle.path.specs.Refusal.{Check, check, refusalOf}
 use Rattle.path.proofs.Paths.{length-values}
@@ -20,89 +21,110 @@ use Rattle.select.specs.Select.{selected, selectChecks}
 use Rattle.select.specs.declared.SelectResult.{SelectResult}
 use Rattle.select.proofs.Walks.{select-done, select-refused}
 use Rattle.segment.specs.Segment.{maxSamples}
-use Rattle.least.specs.Segmentation.{Piece, maxSegments, perPiece, pieceStart, pieceLevel, startsOf, levelsOf, lossOf, least}
+use Rattle.least.specs.Segmentation.{Piece, maxSegments, perPiece, pieceStart, pieceLevel, startsOf, levelsOf, lossOf, least, chosenBy}
 use Rattle.least.proofs.Chosen.{perPiece-count}
 use Rattle.signal.specs.Signal.{sizeCount, leastLosses, pathBy, signalPath, segmentsAt, segmentation}
-use Rattle.signal.specs.SignalPath.{PathBuffers, pathBuffers, pathRooms, pathFilled, validLimit, inputChecks, roomCheck, SignalPathOutcome, signalPathChecks, signalPathRefused, signalPathLeft, signalPathOf}
+use Rattle.signal.specs.SignalPath.{PathBuffers, pathBuffers, pathRooms, pathFilled, roomCheck, SignalPathOutcome, signalPathChecks, signalPathRefused, signalPathLeft, signalPathOf}
 use Rattle.signal.specs.Split.{SplitBuffers, splitRooms, SplitOutcome, splitChecks, splitRefused, splitAt, splitOf}
 use Rattle.signal.proofs.Paths.{Sized, path-sized, path-few}
 use Rattle.signal.proofs.Inputs.{path-solvable, splittable}
 use Rattle.foldwig.specs.SignalsInner.{readSamples}
 use Rattle.path.proofs.Cuts.{agree, overwritten-cut, overwritten-to-cut, leb-take, same-cond, by-checks-cut}
 
--- Too many samples are too many in the front.
-short-cut : (xs : List ℤ) → leb (length (take readSamples xs)) maxSamples ≡ leb (length xs) maxSamples
-short-cut xs =
-    agree (leb (length (take readSamples xs)) maxSamples) (leb (length xs) maxSamples)
-    (λ e. le-leb (length xs) maxSamples (omega (arith, leb-true (length (take readSamples xs)) maxSamples e, length-take readSamples xs)))
-    (λ e. le-leb (length (take readSamples xs)) maxSamples (omega (arith, leb-true (length xs) maxSamples e, length-take readSamples xs)))
+-- Few samples are all in the front.
+pub few-samples : (xs : List ℤ) → length xs ≤ maxSamples → take readSamples xs ≡ xs
+few-samples xs h = take-all readSamples xs (omega arith)
 
--- The checks of the samples and the limit decide alike, and so do further ones that agree on each number of sizes that may occur.
-input-cut : (xs : List ℤ) (limit : ℕ) (ds es : ℕ → List Check) → ((k : ℕ) → k ≤ maxSegments → refusalOf (ds k) ≡ refusalOf (es k))
-    → refusalOf (inputChecks (length (take readSamples xs)) limit ++ ds (min limit (length (take readSamples xs)))) ≡ refusalOf (inputChecks (length xs) limit ++ es (min limit (length xs)))
+-- A test that only few samples pass says the same of the front.
+fits-cut : (fits : ℕ → Bool) → ((n : ℕ) → fits n ≡ true → n ≤ maxSamples) → (xs : List ℤ) → fits (length (take readSamples xs)) ≡ fits (length xs)
+fits-cut fits low xs =
+    agree (fits (length (take readSamples xs))) (fits (length xs))
+    (λ e. subst (λ (ys : List ℤ). fits (length ys) ≡ true) (few-samples xs (omega (arith, low (length (take readSamples xs)) e, length-take readSamples xs))) e)
+    (λ e. subst (λ (ys : List ℤ). fits (length ys) ≡ true) (sym (few-samples xs (low (length xs) e))) e)
+
+-- After the same check, checks that decide alike where it passes decide alike.
+pub check-cut : (c : Check) (cs ds : List Check) → (c .passes ≡ true → refusalOf cs ≡ refusalOf ds) → refusalOf (c ∷ cs) ≡ refusalOf (c ∷ ds)
 unfolding refusalOf
-input-cut xs limit ds es f =
-    rw (leb-take 1 readSamples xs (omega arith), short-cut xs)
-    (same-cond (leb 1 (length xs)) _ _ 1 (λ _. same-cond (leb (length xs) maxSamples) _ _ 2 (λ h. same-cond (validLimit limit) _ _ 3
-    (λ v. later (leb-true (length xs) maxSamples h) (leb-true limit maxSegments (both (leb 1 limit) (leb limit maxSegments) v .1))))))
-  where
-    later : length xs ≤ maxSamples → limit ≤ maxSegments → refusalOf (ds (min limit (length (take readSamples xs)))) ≡ refusalOf (es (min limit (length xs)))
-    later h few =
-        let e : min limit (length (take readSamples xs)) ≡ min limit (length xs) = omega (arith, length-take readSamples xs) in
-        ap (λ (k : ℕ). refusalOf (ds k)) e ∙ f (min limit (length xs)) (omega arith)
+check-cut c cs ds f = same-cond (c .passes) (refusalOf cs) (refusalOf ds) (c .number) f
 
--- The first places of a path call's buffers.
-abbrev pub pathTaken : PathBuffers → PathBuffers
-pathTaken b = pathBuffers (take maxSegments (b .sizes)) (take maxSegments (b .losses)) (b .scratch)
+-- The checks of a limit up to `top` and of the samples, of which only few pass, decide alike, and so do further ones that agree on each
+-- number of samples.
+pub limit-cut : (fits : ℕ → Bool) → ((n : ℕ) → fits n ≡ true → n ≤ maxSamples) → (xs : List ℤ) (top limit : ℕ) (ds es : ℕ → List Check)
+    → (limit ≤ top → (n : ℕ) → refusalOf (ds n) ≡ refusalOf (es n))
+    → refusalOf (check 2 (fits (length (take readSamples xs))) ∷ check 3 (leb 1 limit && leb limit top) ∷ ds (length (take readSamples xs)))
+    ≡ refusalOf (check 2 (fits (length xs)) ∷ check 3 (leb 1 limit && leb limit top) ∷ es (length xs))
+limit-cut fits low xs top limit ds es f =
+    rw (fits-cut fits low xs) (check-cut (check 2 (fits (length xs))) (limited (ds (length (take readSamples xs)))) (limited (es (length xs))) (λ h. rw (few-samples xs (low (length xs) h)) later))
+  where
+    limited : List Check → List Check
+    limited cs = check 3 (leb 1 limit && leb limit top) ∷ cs
+
+    later : refusalOf (limited (ds (length xs))) ≡ refusalOf (limited (es (length xs)))
+    later =
+        check-cut (check 3 (leb 1 limit && leb limit top)) (ds (length xs)) (es (length xs))
+        (λ v. f (leb-true limit top (both (leb 1 limit) (leb limit top) v .1)) (length xs))
+
+-- The same where the signal may not be empty.
+pub input-cut : (xs : List ℤ) (top limit : ℕ) (ds es : ℕ → List Check) → (limit ≤ top → (n : ℕ) → refusalOf (ds n) ≡ refusalOf (es n))
+    → refusalOf (check 1 (leb 1 (length (take readSamples xs))) ∷ check 2 (leb (length (take readSamples xs)) maxSamples) ∷ check 3 (leb 1 limit && leb limit top) ∷ ds (length (take readSamples xs)))
+    ≡ refusalOf (check 1 (leb 1 (length xs)) ∷ check 2 (leb (length xs) maxSamples) ∷ check 3 (leb 1 limit && leb limit top) ∷ es (length xs))
+input-cut xs top limit ds es f =
+    rw (leb-take 1 readSamples xs (omega arith))
+    (check-cut (check 1 (leb 1 (length xs))) _ _ (λ _. limit-cut (λ n. leb n maxSamples) (λ n h. leb-true n maxSamples h) xs top limit ds es f))
+
+-- The first c places of a path call's buffers.
+abbrev pub pathTaken : ℕ → PathBuffers → PathBuffers
+pathTaken c b = pathBuffers (take c (b .sizes)) (take c (b .losses)) (b .scratch)
 
 -- What stands in the first places, with the rest of the buffers after it.
-abbrev pub pathRejoined : PathBuffers → PathBuffers → PathBuffers
-pathRejoined b front =
-    pathBuffers (front .sizes ++ drop maxSegments (b .sizes)) (front .losses ++ drop maxSegments (b .losses)) (front .scratch)
+abbrev pub pathRejoined : ℕ → PathBuffers → PathBuffers → PathBuffers
+pathRejoined c b front = pathBuffers (front .sizes ++ drop c (b .sizes)) (front .losses ++ drop c (b .losses)) (front .scratch)
 
-path-parts : (b : PathBuffers) → b ≡ pathRejoined b (pathTaken b)
-path-parts b = λ i. pathBuffers (sym (take-append-drop maxSegments (b .sizes)) i) (sym (take-append-drop maxSegments (b .losses)) i) (b .scratch)
+-- The buffers are their first places and the rest.
+pub path-parts : (c : ℕ) (b : PathBuffers) → b ≡ pathRejoined c b (pathTaken c b)
+path-parts c b = λ i. pathBuffers (sym (take-append-drop c (b .sizes)) i) (sym (take-append-drop c (b .losses)) i) (b .scratch)
 
-path-filled-cut : (path : List Model) (n : ℕ) (b : PathBuffers) → length path ≤ n → n ≤ maxSegments → pathFilled path n b ≡ pathRejoined b (pathFilled path n (pathTaken b))
-path-filled-cut path n b few h =
-    let cut : (field : Model → ℕ) (s : List ℕ) → _ = λ field s. overwritten-to-cut (valuesOf field path) n maxSegments s (omega (arith, length-values field path)) h in
+-- A path of sizes up to n, of which there are at most c, takes first places alone.
+pub path-filled-cut : (f : ℕ → ℕ) (n c : ℕ) (b : PathBuffers) → n ≤ c → pathFilled (pathBy f n) n b ≡ pathRejoined c b (pathFilled (pathBy f n) n (pathTaken c b))
+path-filled-cut f n c b h =
+    let path = pathBy f n in
+    let cut : (field : Model → ℕ) (s : List ℕ) → _ = λ field s. overwritten-to-cut (valuesOf field path) n c s (omega (arith, length-values field path, path-few f n)) h in
     λ i. pathBuffers (cut (λ m. m .size) (b .sizes) i) (cut (λ m. m .loss) (b .losses) i) (replicate (length (b .scratch)) 0)
 
 -- What a path call leaves in the first places, with the rest of the buffers after it.
 abbrev pub signalPathOutcomeRejoined : PathBuffers → SignalPathOutcome → SignalPathOutcome
-signalPathOutcomeRejoined b o = record { refusal = o .refusal; entries = o .entries; buffers = pathRejoined b (o .buffers) }
-
-few-samples : (xs : List ℤ) → length xs ≤ maxSamples → take readSamples xs ≡ xs
-few-samples xs h = take-all readSamples xs (omega arith)
+signalPathOutcomeRejoined b o = record { refusal = o .refusal; entries = o .entries; buffers = pathRejoined maxSegments b (o .buffers) }
 
 module _ (xs : List ℤ) (limit : ℕ) (b : PathBuffers) where
   abbrev pathChecks : List ℤ → PathBuffers → List Check
   pathChecks ys d = signalPathChecks (length ys) limit (pathRooms d) (length (d .scratch))
 
-  path-checks-cut : refusalOf (pathChecks (take readSamples xs) (pathTaken b)) ≡ refusalOf (pathChecks xs b)
+  path-checks-cut : refusalOf (pathChecks (take readSamples xs) (pathTaken maxSegments b)) ≡ refusalOf (pathChecks xs b)
   unfolding refusalOf
-  path-checks-cut = input-cut xs limit (rooms (pathTaken b)) (rooms b) (λ k h. rw (leb-take k maxSegments (b .sizes) h, leb-take k maxSegments (b .losses) h))
+  path-checks-cut =
+      input-cut xs maxSegments limit (rooms (pathTaken maxSegments b)) (rooms b)
+      (λ h n. rw (leb-take (min limit n) maxSegments (b .sizes) (omega arith), leb-take (min limit n) maxSegments (b .losses) (omega arith)))
     where
       rooms : PathBuffers → ℕ → List Check
-      rooms d k = roomCheck k (pathRooms d) (length (d .scratch)) ∷ []
+      rooms d n = roomCheck (min limit n) (pathRooms d) (length (d .scratch)) ∷ []
 
   abbrev pathLeft : List ℤ → PathBuffers → SignalPathOutcome
   pathLeft ys d = signalPathLeft (signalPath ys (sizeCount ys limit)) (sizeCount ys limit) d
 
-  path-left-cut : refusalOf (pathChecks xs b) ≡ 0 → pathLeft xs b ≡ signalPathOutcomeRejoined b (pathLeft (take readSamples xs) (pathTaken b))
+  path-left-cut : refusalOf (pathChecks xs b) ≡ 0 → pathLeft xs b ≡ signalPathOutcomeRejoined b (pathLeft (take readSamples xs) (pathTaken maxSegments b))
   path-left-cut e =
       let ok = path-solvable xs limit b e in
       let n = sizeCount xs limit in
       let path = signalPath xs n in
-      let filled = path-filled-cut path n b (path-few (leastLosses xs) n) (omega (arith, ok .few)) in
-      subst (λ (ys : List ℤ). pathLeft xs b ≡ signalPathOutcomeRejoined b (pathLeft ys (pathTaken b))) (sym (few-samples xs (ok .short)))
+      let filled = path-filled-cut (leastLosses xs) n maxSegments b (omega (arith, ok .few)) in
+      subst (λ (ys : List ℤ). pathLeft xs b ≡ signalPathOutcomeRejoined b (pathLeft ys (pathTaken maxSegments b))) (sym (few-samples xs (ok .short)))
       (λ i. record { refusal = 0; entries = length path; buffers = filled i })
 
-  pub signal-path-cut : signalPathOf xs limit b ≡ signalPathOutcomeRejoined b (signalPathOf (take readSamples xs) limit (pathTaken b))
+  pub signal-path-cut : signalPathOf xs limit b ≡ signalPathOutcomeRejoined b (signalPathOf (take readSamples xs) limit (pathTaken maxSegments b))
   unfolding signalPathOf
   signal-path-cut =
-      by-checks-cut (signalPathOutcomeRejoined b) (pathChecks xs b) (pathChecks (take readSamples xs) (pathTaken b)) (signalPathRefused b) (signalPathRefused (pathTaken b))
-      (pathLeft xs b) (pathLeft (take readSamples xs) (pathTaken b)) path-checks-cut (λ c. λ i. signalPathRefused (path-parts b i) c) path-left-cut
+      by-checks-cut (signalPathOutcomeRejoined b) (pathChecks xs b) (pathChecks (take readSamples xs) (pathTaken maxSegments b)) (signalPathRefused b) (signalPathRefused (pathTaken maxSegments b))
+      (pathLeft xs b) (pathLeft (take readSamples xs) (pathTaken maxSegments b)) path-checks-cut (λ c. λ i. signalPathRefused (path-parts maxSegments b i) c) path-left-cut
 
 -- One value more that is low.
 low-more : (k : ℕ) (xs : List ℕ) (x : ℕ) → ((i : ℕ) → getD xs i 0 ≤ k) → x ≤ k → (i : ℕ) → getD (xs ++ (x ∷ [])) i 0 ≤ k
@@ -131,12 +153,13 @@ segments-few f k p q =
     (λ (h : 0 < r). subst (λ (t : SelectResult). t .size ≤ k) (select-refused s l n p q r refl (λ z. omega arith)) (omega arith))
     (eq-zero-or-pos r)
 
-pieces-few : {A : Type 0} (f : Piece → List Piece → A) (xs : List ℤ) (k : ℕ) → k ≤ maxSegments → length (perPiece f (segmentation xs k)) ≤ maxSegments
-pieces-few f xs k h = omega (arith, perPiece-count f xs (least xs) (k - 1) (length xs))
+-- Lists with one item for each of at most c pieces, chosen by any losses g, have at most c items.
+pub pieces-few : {A : Type 0} (f : Piece → List Piece → A) (xs : List ℤ) (g : ℕ → ℕ → ℕ) (k c : ℕ) → k ≤ c → 0 < c → length (perPiece f (chosenBy xs g (k - 1) (length xs))) ≤ c
+pieces-few f xs g k c h some = omega (arith, perPiece-count f xs g (k - 1) (length xs))
 
 -- The first places of a split's buffers.
 abbrev pub splitTaken : SplitBuffers → SplitBuffers
-splitTaken b = record { starts = take maxSegments (b .starts); levels = take maxSegments (b .levels); path = pathTaken (b .path) }
+splitTaken b = record { starts = take maxSegments (b .starts); levels = take maxSegments (b .levels); path = pathTaken maxSegments (b .path) }
 
 -- What stands in the first places, with the rest of the buffers after it.
 abbrev pub splitRejoined : SplitBuffers → SplitBuffers → SplitBuffers
@@ -144,12 +167,12 @@ splitRejoined b front =
     record {
       starts = front .starts ++ drop maxSegments (b .starts);
       levels = front .levels ++ drop maxSegments (b .levels);
-      path = pathRejoined (b .path) (front .path);
+      path = pathRejoined maxSegments (b .path) (front .path);
     }
 
 split-parts : (b : SplitBuffers) → b ≡ splitRejoined b (splitTaken b)
 split-parts b =
-    λ i. record { starts = sym (take-append-drop maxSegments (b .starts)) i; levels = sym (take-append-drop maxSegments (b .levels)) i; path = path-parts (b .path) i }
+    λ i. record { starts = sym (take-append-drop maxSegments (b .starts)) i; levels = sym (take-append-drop maxSegments (b .levels)) i; path = path-parts maxSegments (b .path) i }
 
 -- What a split leaves in the first places, with the rest of the buffers after it.
 abbrev pub splitOutcomeRejoined : SplitBuffers → SplitOutcome → SplitOutcome
@@ -163,11 +186,16 @@ module _ (xs : List ℤ) (limit p q : ℕ) (b : SplitBuffers) where
   checks-cut : refusalOf (checks (take readSamples xs) (splitTaken b)) ≡ refusalOf (checks xs b)
   unfolding refusalOf
   checks-cut =
-      input-cut xs limit (rooms (splitTaken b)) (rooms b)
-      (λ k h. rw (leb-take k maxSegments (b .starts) h, leb-take k maxSegments (b .levels) h, leb-take k maxSegments (b .path .sizes) h, leb-take k maxSegments (b .path .losses) h))
+      input-cut xs maxSegments limit (rooms (splitTaken b)) (rooms b)
+      (λ h n. rw (
+        leb-take (min limit n) maxSegments (b .starts) (omega arith),
+        leb-take (min limit n) maxSegments (b .levels) (omega arith),
+        leb-take (min limit n) maxSegments (b .path .sizes) (omega arith),
+        leb-take (min limit n) maxSegments (b .path .losses) (omega arith),
+      ))
     where
       rooms : SplitBuffers → ℕ → List Check
-      rooms d k = check 4 (validPenalty p q) ∷ roomCheck k (splitRooms d) (length (d .path .scratch)) ∷ []
+      rooms d n = check 4 (validPenalty p q) ∷ roomCheck (min limit n) (splitRooms d) (length (d .path .scratch)) ∷ []
 
   abbrev left : List ℤ → SplitBuffers → SplitOutcome
   left ys d = splitAt ys (signalPath ys (sizeCount ys limit)) (sizeCount ys limit) p q d
@@ -179,9 +207,9 @@ module _ (xs : List ℤ) (limit p q : ℕ) (b : SplitBuffers) where
       let path = signalPath xs n in
       let k = segmentsAt path p q in
       let few : k ≤ maxSegments = omega (arith, segments-few (leastLosses xs) n p q, ok .few) in
-      let filled = path-filled-cut path n (b .path) (path-few (leastLosses xs) n) (omega (arith, ok .few)) in
-      let starts = overwritten-cut (startsOf (segmentation xs k)) maxSegments (b .starts) (pieces-few pieceStart xs k few) in
-      let levels = overwritten-cut (levelsOf (segmentation xs k)) maxSegments (b .levels) (pieces-few pieceLevel xs k few) in
+      let filled = path-filled-cut (leastLosses xs) n maxSegments (b .path) (omega (arith, ok .few)) in
+      let starts = overwritten-cut (startsOf (segmentation xs k)) maxSegments (b .starts) (pieces-few pieceStart xs (least xs) k maxSegments few (omega arith)) in
+      let levels = overwritten-cut (levelsOf (segmentation xs k)) maxSegments (b .levels) (pieces-few pieceLevel xs (least xs) k maxSegments few (omega arith)) in
       subst (λ (ys : List ℤ). left xs b ≡ splitOutcomeRejoined b (left ys (splitTaken b))) (sym (few-samples xs (ok .short)))
       (λ i. record { refusal = 0; segments = k; loss = lossOf (segmentation xs k); entries = length path; buffers = record { starts = starts i; levels = levels i; path = filled i } })
 

@@ -3,7 +3,7 @@
 use mathlib.Core.Path.{_≡_, refl, ap, sym, _∙_}
 use mathlib.Core.Bool.{true, false, _&&_}
 use mathlib.Core.List.{List, [], _∷_, _++_, map}
-use Prim.Native.Nat.{ℕ, zero, suc, _*_, _/_, _%_, min}
+use Prim.Native.Nat.{ℕ, zero, suc, _*_, _/_, _%_, _≤_, min}
 use native.Mathlib.Omega.{arith}
 use lib.IntN.{ℤ}
 use lib.ListN.{length, drop}
@@ -41,8 +41,12 @@ signs-back (x ∷ xs) b = λ i. unsigned-signed x (b 0 (omega arith)) i ∷ sign
 pub signed-items-back : (bytes : List ℕ) → Bytes bytes → (n : ℕ) → map unsignedOf (map signedOf (itemsTo 2 bytes n)) ≡ itemsTo 2 bytes n
 signed-items-back bytes b n = signs-back (itemsTo 2 bytes n) (items-low 2 bytes n b)
 
+-- A front of signed items that was not changed.
+pub signeds-back : (bytes : List ℕ) (a : ℕ) → Bytes bytes → 2 * a ≤ length bytes → bytesOf 2 (map unsignedOf (map signedOf (itemsTo 2 bytes a))) ++ drop (2 * a) bytes ≡ bytes
+signeds-back bytes a b h = ap (λ (t : List ℕ). bytesOf 2 t ++ drop (2 * a) bytes) (signed-items-back bytes b a) ∙ front-back 2 bytes a b h
+
 -- Signed items over the front of whole items, with the rest of these after them.
-signeds-over : (bytes : List ℕ) (c a : ℕ) → Bytes bytes → length bytes ≡ 2 * (length bytes / 2) → a ≡ min (length bytes / 2) c → (xs : List ℤ)
+pub signeds-over : (bytes : List ℕ) (c a : ℕ) → Bytes bytes → length bytes ≡ 2 * (length bytes / 2) → a ≡ min (length bytes / 2) c → (xs : List ℤ)
     → bytesOf 2 (map unsignedOf (xs ++ drop c (signeds bytes))) ≡ bytesOf 2 (map unsignedOf xs) ++ drop (2 * a) bytes
 signeds-over bytes c a b whole e xs =
     let rest : map unsignedOf (drop c (signeds bytes)) ≡ drop c (itemsOf 2 bytes) = sym (map-drop unsignedOf c (signeds bytes)) ∙ ap (drop c) (signed-items-back bytes b (length bytes / 2)) in
@@ -65,25 +69,24 @@ pub record WholeSplit (b : SplitByteBuffers) : Type 0 where
 pub record SplitRead (n : SplitCounts) (samples : List ℕ) (b : SplitByteBuffers) : Type 0 where
   pub starts-read : n .starts ≡ min (length (b .starts) / 2) maxSegments
   pub levels-read : n .levels ≡ min (length (b .levels) / 2) maxSegments
-  pub path-is-read : PathRead (n .path) samples (b .path)
+  pub path-is-read : PathRead maxSegments (n .path) samples (b .path)
 
 pub split-within : (n : SplitCounts) (samples : List ℕ) (b : SplitByteBuffers) → SplitRead n samples b → SplitWithin n samples b
 split-within n samples b r =
-    record { starts-have = omega (arith, r .starts-read); levels-have = omega (arith, r .levels-read); path-has = path-within (n .path) samples (b .path) (r .path-is-read) }
+    record { starts-have = omega (arith, r .starts-read); levels-have = omega (arith, r .levels-read); path-has = path-within maxSegments (n .path) samples (b .path) (r .path-is-read) }
 
 module _ (n : SplitCounts) (samples : List ℕ) (b : SplitByteBuffers) (s : SplitStrings b) where
   -- The first items, written back, leave the buffers as they were.
   split-kept : SplitWithin n samples b → splitOver n b (splitItems n b) ≡ b
   split-kept h =
-      let levels = ap (λ (t : List ℕ). bytesOf 2 t ++ drop (2 * n .levels) (b .levels)) (signed-items-back (b .levels) (s .levels) (n .levels)) ∙ front-back 2 (b .levels) (n .levels) (s .levels) (h .levels-have) in
-      λ i. record { starts = front-back 2 (b .starts) (n .starts) (s .starts) (h .starts-have) i; levels = levels i; path = path-kept (n .path) samples (b .path) (s .path) (h .path-has) i }
+      λ i. record { starts = front-back 2 (b .starts) (n .starts) (s .starts) (h .starts-have) i; levels = signeds-back (b .levels) (n .levels) (s .levels) (h .levels-have) i; path = path-kept (n .path) samples (b .path) (s .path) (h .path-has) i }
 
   -- A refused split of the first items, after which nothing is written.
   pub split-unwritten : SplitWithin n samples b → (limit p q : ℕ) (made : SplitResult) (after : SplitBuffers)
-      → splitOutcome made after ≡ splitOf (firstSamples (n .path) samples) limit p q (splitItems n b) → (made .refusal ≡ 0 → ⊥)
+      → splitOutcome made after ≡ splitOf (firstSamples (n .path .samples) samples) limit p q (splitItems n b) → (made .refusal ≡ 0 → ⊥)
       → splitByteOutcome made (splitByteBuffers (b .starts) (b .levels) (b .path .sizes) (b .path .losses) (after .path .scratch)) ≡ splitOfFront n samples limit p q b
   split-unwritten h limit p q made after e f =
-      let xs = firstSamples (n .path) samples in
+      let xs = firstSamples (n .path .samples) samples in
       let refused = split-refused xs limit p q (splitItems n b) (made .refusal) (ap (λ (o : SplitOutcome). o .refusal) e ∙ split-refusal xs limit p q (splitItems n b)) f in
       let same = e ∙ sym refused in
       (λ i.
@@ -104,7 +107,7 @@ module _ (n : SplitCounts) (samples : List ℕ) (b : SplitByteBuffers) (s : Spli
         record {
           starts = items-read 2 (b .starts) maxSegments (n .starts) (r .starts-read) i;
           levels = signeds-read (b .levels) maxSegments (n .levels) (r .levels-read) i;
-          path = path-read (n .path) samples (b .path) (s .path) (r .path-is-read) i;
+          path = path-read (n .path) samples (b .path) (s .path) maxSegments (r .path-is-read) i;
         }
 
     split-over : WholeSplit b → (items : SplitBuffers) → splitBytes (splitRejoined (splitNumbers b) items) ≡ splitOver n b items
@@ -113,13 +116,13 @@ module _ (n : SplitCounts) (samples : List ℕ) (b : SplitByteBuffers) (s : Spli
         record {
           starts = items-over 2 (b .starts) maxSegments (n .starts) (s .starts) (w .starts) (r .starts-read) (items .starts) i;
           levels = signeds-over (b .levels) maxSegments (n .levels) (s .levels) (w .levels) (r .levels-read) (items .levels) i;
-          path = path-over (n .path) samples (b .path) (s .path) (r .path-is-read) (w .path) (items .path) i;
+          path = path-over (n .path) samples (b .path) (s .path) maxSegments (r .path-is-read) (w .path) (items .path) i;
         }
 
     -- The split of the first items, over the front of the byte strings, is the split of all items.
     pub split-joined : WholeSplit b → (limit p q : ℕ) → splitOfFront n samples limit p q b ≡ splitInBytes (splitOf (signeds samples) limit p q (splitNumbers b))
     split-joined w limit p q =
-        let o = splitOf (firstSamples (n .path) samples) limit p q (splitItems n b) in
+        let o = splitOf (firstSamples (n .path .samples) samples) limit p q (splitItems n b) in
         let first = signeds-read samples readSamples (n .path .samples) (r .path-is-read .samples-read) in
         sym (ap splitInBytes (split-cut (signeds samples) limit p q (splitNumbers b))
         ∙ (λ i. splitInBytes (splitOutcomeRejoined (splitNumbers b) (splitOf (first i) limit p q (split-read i))))

@@ -30,9 +30,9 @@ pub record PathWithin (n : PathCounts) (samples : List ℕ) (b : PathBuffers) : 
   pub sizes-have : 2 * n .sizes ≤ length (b .sizes)
   pub losses-have : 8 * n .losses ≤ length (b .losses)
 
--- The first samples.
-abbrev pub firstSamples : PathCounts → List ℕ → List ℤ
-firstSamples n bytes = map signedOf (itemsTo 2 bytes (n .samples))
+-- The first n samples.
+abbrev pub firstSamples : ℕ → List ℕ → List ℤ
+firstSamples n bytes = map signedOf (itemsTo 2 bytes n)
 
 -- The first items of the path's buffers.
 abbrev pub pathItems : PathCounts → PathBuffers → PathBuffers
@@ -52,7 +52,7 @@ signalPathOutcomeOver n b o = record { refusal = o .refusal; entries = o .entrie
 
 -- The path call on the first items.
 abbrev pub signalPathOfFront : PathCounts → List ℕ → ℕ → PathBuffers → SignalPathOutcome
-signalPathOfFront n samples limit b = signalPathOutcomeOver n b (signalPathOf (firstSamples n samples) limit (pathItems n b))
+signalPathOfFront n samples limit b = signalPathOutcomeOver n b (signalPathOf (firstSamples (n .samples) samples) limit (pathItems n b))
 
 -- How many items of each byte string a split reads.
 pub record SplitCounts : Type 0 where
@@ -102,4 +102,4 @@ splitOutcomeOver n b o =
 
 -- The split of the first items.
 abbrev pub splitOfFront : SplitCounts → List ℕ → ℕ → ℕ → ℕ → SplitByteBuffers → SplitByteOutcome
-splitOfFront n samples limit p q b = splitOutcomeOver n b (splitOf (firstSamples (n .path) samples) limit p q (splitItems n b))
+splitOfFront n samples limit p q b = splitOutcomeOver n b (splitOf (firstSamples (n .path .samples) samples) limit p q (splitItems n b))

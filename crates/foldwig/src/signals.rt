@@ -22,10 +22,10 @@ use signal::SignalPathResult;
 use signal::SplitResult;
 
 // The most samples that are read, one more than a signal may have: too many stay too many.
-const READ_SAMPLES: usize = MAX_SAMPLES + 1;
+pub const READ_SAMPLES: usize = MAX_SAMPLES + 1;
 
 // Whether the samples and the buffers of a path call are made of whole items, by their lengths.
-fn path_whole(samples: usize, sizes: usize, losses: usize) -> bool
+pub fn path_whole(samples: usize, sizes: usize, losses: usize) -> bool
     ensures { λ r. ⌜ r ≡ eqb (samples % 2) 0 && eqb (sizes % 2) 0 && eqb (losses % 8) 0 ⌝ }
 {
     if samples % 2 != 0 {

@@ -137,12 +137,7 @@ fn loss_below(losses: &[u64], entries: usize, loss: u64) -> bool
 }
 
 // Tries sizes 1 to count in turn, by their losses. One whose loss is not below that of the last entry is skipped.
-fn fill_path(
-    losses: &[u64],
-    count: usize,
-    path_sizes: &mut [u64],
-    path_losses: &mut [u64],
-) -> usize
+fn fill_path(losses: &[u64], count: usize, path_sizes: &mut [u64], path_losses: &mut [u64]) -> usize
     requires { ⌜ LossesFrom (now losses) count (length (now «path_sizes»)) (length (now «path_losses»)) ⌝ }
     ensures { λ r. ⌜ Held
         (pathBy (lossesIn (now (losses .entry))) count)
@@ -156,7 +151,14 @@ fn fill_path(
         let size = i as u64 + 1;
         let loss = losses[i];
         if loss_below(path_losses, entries, loss) {
-            let found = path::try_model(path_sizes, path_losses, entries, size, loss, tally::none());
+            let found = path::try_model(
+                path_sizes,
+                path_losses,
+                entries,
+                size,
+                loss,
+                tally::none(),
+            );
             let kept = found.entries;
             path_sizes[kept] = size;
             path_losses[kept] = loss;

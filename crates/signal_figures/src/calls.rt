@@ -1,18 +1,15 @@
 // The calls on signals, each made on buffers of 40 places that hold marks and on scratch bytes that are 7.
 
-ghost use Prim.Native.Nat.{_≤_};
 use crate::outcome::Outcome;
 use crate::outcome::SCRATCH;
 use crate::outcome::no_call;
 use std::num::wrapping_add_u64;
 use testing::list::MARK;
-use testing::sample::raise;
-
-// What the starts and the levels hold before a call. A level that is the mark counts as a place that is as before, and so as a
-// mismatch where it is right.
-const START_MARK: u16 = 65535;
-
-const LEVEL_MARK: i16 = -32669;
+use testing::list::within;
+use testing::sample::LEVEL_MARK;
+use testing::sample::START_MARK;
+use testing::sample::levels_of;
+use testing::sample::starts_of;
 
 // What a call is given beside the samples: the limit, the penalty p / q, and the number of places of each buffer.
 pub struct Arguments {
@@ -47,49 +44,6 @@ fn fits(given: Arguments) -> bool {
     let segments = given.starts <= 40 && given.levels <= 40;
     let path = given.sizes <= 40 && given.losses <= 40;
     segments && path && given.scratch <= SCRATCH
-}
-
-// A number of places, and at most all of them. With more no call is made.
-fn within(n: usize, all: usize) -> usize
-    ensures { λ r. ⌜ r ≤ all ⌝ }
-{
-    if n < all { n } else { all }
-}
-
-// A start as a number of 64 bits, and a mark where it is as before.
-fn widen(start: u16) -> u64 {
-    if start == START_MARK {
-        MARK
-    } else {
-        start as u64
-    }
-}
-
-// The starts as numbers of 64 bits.
-fn starts_of(starts: &[u16; 40]) -> [u64; 40] {
-    let mut wide = [MARK; 40];
-    for i in 0..40 {
-        wide[i] = widen(starts[i]);
-    }
-    wide
-}
-
-// A level, raised, and a mark where it is as before.
-fn raise_level(level: i16) -> u64 {
-    if level == LEVEL_MARK {
-        MARK
-    } else {
-        raise(level)
-    }
-}
-
-// The levels, raised.
-fn levels_of(levels: &[i16; 40]) -> [u64; 40] {
-    let mut raised = [MARK; 40];
-    for i in 0..40 {
-        raised[i] = raise_level(levels[i]);
-    }
-    raised
 }
 
 // The number of bytes that are not a value, which is too small to wrap.

@@ -1,15 +1,14 @@
--- Facts on the check of a table's columns: a walk from the last place back ends at the first that fails, values that sum up to 0 when
--- divided by 2^44 are as is due, and columns that pass have values of at most 2^44 where no mark is due.
+-- Facts on the check of 12: columns pass it where each of their values does, and then a value is at most 2^44 where no mark is due. A walk
+-- from the last place back ends at the first that fails, and values that sum up to 0 when divided by 2^44 are as is due.
 use mathlib.Core.Path.{_≡_, refl, sym, _∙_, ap}
 use mathlib.Core.Logic.{_⊎_, inl, inr, ⊎-elim}
 use mathlib.Core.Bool.{Bool, true, false, cond, _&&_}
 use mathlib.Core.List.{List}
 use Prim.Native.Nat.{ℕ, zero, suc, _+_, _*_, _-_, _/_, min, _≤_, _<_}
 use native.Mathlib.Nat.{eq-or-lt-of-le}
-use native.Mathlib.Decide.{decLe}
 use native.Mathlib.Omega.{arith}
-use lib.Dec.{leb, eqb}
-use borrow.Author.Tests.{lt-ltb, leb-true, le-leb}
+use lib.Dec.{ltb, leb, eqb}
+use borrow.Author.Tests.{lt-ltb, le-ltb, leb-true, le-leb, eq-eqb}
 use Rattle.path.specs.Refusal.{maxLoss}
 use Rattle.path.proofs.Checks.{both}
 use Rattle.stream.specs.Table.{maxRows, mark, value, cellDue, rowDue, rowsDue, columnsDue}
@@ -23,10 +22,57 @@ and-false : (b : Bool) → (b && false) ≡ false
 and-false true = refl
 and-false false = refl
 
--- A value that is due where no mark is.
-cell-low : (t : List ℕ) (k j : ℕ) → k < j → cellDue t k j ≡ leb (value t k j) maxLoss
+-- A test of all the places below one, by the test of each.
+module _ (all each : ℕ → Bool) (none : all 0 ≡ true) (more : (m : ℕ) → all (suc m) ≡ (all m && each m)) where
+  -- It passes where each does.
+  all-pass : (n : ℕ) → ((m : ℕ) → m < n → each m ≡ true) → all n ≡ true
+  all-pass zero h = none
+  all-pass (suc n) h = more n ∙ rw (all-pass n (λ m l. h m (omega arith)), h n (omega arith))
+
+  -- Where it passes each does.
+  each-passes : (n : ℕ) → all n ≡ true → (m : ℕ) → m < n → each m ≡ true
+  each-passes zero h m l = absurd (omega arith)
+  each-passes (suc n) h m l =
+      let b = both (all n) (each n) (sym (more n) ∙ h) in
+      ⊎-elim (λ (e : m ≡ n). ap each e ∙ b .1) (λ (u : m < n). each-passes n (b .0) m u) (eq-or-lt-of-le {n = m} {m = n} (omega arith))
+
+module _ (t : List ℕ) where
+  -- Columns are due where each of their values is.
+  pub columns-due : (n : ℕ) → ((k j : ℕ) → k < maxRows → 0 < j → j ≤ n → cellDue t k j ≡ true) → columnsDue t n ≡ true
+  unfolding rowsDue rowDue
+  columns-due n h =
+      all-pass (rowsDue t n) (λ k. rowDue t k n) refl (λ m. refl) maxRows
+      (λ k few. all-pass (rowDue t k) (λ j. cellDue t k (suc j)) refl (λ m. refl) n (λ j u. h k (suc j) few (omega arith) u))
+
+  -- Each value of columns that are due is.
+  pub cells-due : (n : ℕ) → columnsDue t n ≡ true → (k j : ℕ) → k < maxRows → 0 < j → j ≤ n → cellDue t k j ≡ true
+  unfolding rowsDue rowDue
+  cells-due n h k zero few one u = absurd (omega arith)
+  cells-due n h k (suc j) few one u =
+      each-passes (rowDue t k) (λ i. cellDue t k (suc i)) refl (λ m. refl) n
+      (each-passes (rowsDue t n) (λ i. rowDue t i n) refl (λ m. refl) maxRows h k few) j u
+
+  -- A loss of at most 2^44 is due where there are samples enough.
+  pub low-due : (k j : ℕ) → k < j → value t k j ≤ maxLoss → cellDue t k j ≡ true
+  unfolding cellDue
+  low-due k j h low = rw (lt-ltb k j h) (le-leb (value t k j) maxLoss low)
+
+  -- The mark is due elsewhere.
+  pub mark-due : (k j : ℕ) → j ≤ k → value t k j ≡ mark → cellDue t k j ≡ true
+  unfolding cellDue
+  mark-due k j h e = rw (le-ltb k j h) (eq-eqb (value t k j) mark e)
+
+  -- Columns that are due have values of at most 2^44 where no mark is due.
+  pub due-low : (n : ℕ) → columnsDue t n ≡ true → Low t (suc n)
+  unfolding cellDue
+  due-low n h k j few l u =
+      let due = cells-due n h k j few (omega arith) (omega arith) in
+      leb-true _ _ (sym (ap (λ (b : Bool). cond b (leb (value t k j) maxLoss) (eqb (value t k j) mark)) (lt-ltb k j l)) ∙ due)
+
+-- Whether a value is due goes by the value.
+pub cell-due-same : (s t : List ℕ) (k j : ℕ) → value s k j ≡ value t k j → cellDue s k j ≡ cellDue t k j
 unfolding cellDue
-cell-low t k j h = ap (λ (b : Bool). cond b (leb (value t k j) maxLoss) (eqb (value t k j) mark)) (lt-ltb k j h)
+cell-due-same s t k j e = ap (λ (v : ℕ). cond (ltb k j) (leb v maxLoss) (eqb v mark)) e
 
 module _ (t : List ℕ) (k : ℕ) where
   pub row-none : rowDue t k 0 ≡ true
@@ -53,18 +99,6 @@ module _ (t : List ℕ) (k : ℕ) where
       row-back (suc n) (omega arith) (due (suc n) l (omega arith)) ∙ ap (rowDue t k) p ∙ row-skips m n (omega arith) (λ j u w. due j u (omega arith)))
       (eq-or-lt-of-le {n = m} {m = suc n} h)
 
-  -- A value of a row that is due.
-  cell-of : (n : ℕ) → rowDue t k n ≡ true → (j : ℕ) → 0 < j → j ≤ n → cellDue t k j ≡ true
-  unfolding rowDue
-  cell-of zero h j one u = absurd (omega arith)
-  cell-of (suc n) h j one u =
-      let b = both (rowDue t k n) (cellDue t k (suc n)) h in
-      by-place (eq-or-lt-of-le u) (b .1) (λ w. cell-of n (b .0) j one w)
-    where
-      by-place : (j ≡ suc n) ⊎ (j < suc n) → cellDue t k (suc n) ≡ true → (j ≤ n → cellDue t k j ≡ true) → cellDue t k j ≡ true
-      by-place (inl e) here ih = ap (cellDue t k) e ∙ here
-      by-place (inr w) here ih = ih (omega arith)
-
 -- While a row is summed up, the values passed are small if the sum is 0.
 pub record Summed (t : List ℕ) (k n j sum : ℕ) : Type 0 where
   pub low : k ≤ j
@@ -83,7 +117,7 @@ module _ (t : List ℕ) (k n : ℕ) where
         high = inl (omega arith);
         small = omega (arith, s .small);
         due = λ z i l u. ⊎-elim
-            (λ (q : i ≡ j + 1). ap (cellDue t k) q ∙ cell-low t k (j + 1) (omega (arith, s .low)) ∙ le-leb (value t k (j + 1)) maxLoss (omega arith))
+            (λ (q : i ≡ j + 1). ap (cellDue t k) q ∙ low-due t k (j + 1) (omega (arith, s .low)) (omega arith))
             (λ (q : i < j + 1). s .due (omega arith) i l (omega arith))
             (eq-or-lt-of-le {n = i} {m = j + 1} u);
       }
@@ -115,18 +149,3 @@ module _ (t : List ℕ) (n : ℕ) where
       let p : suc k - 1 ≡ k = omega arith in
       let d : rowDue t k n ≡ false = ap (λ (m : ℕ). rowDue t m n) (sym p) ∙ e in
       ap (λ (b : Bool). rowsDue t n k && b) d ∙ and-false (rowsDue t n k)
-
-  row-of : (m : ℕ) → rowsDue t n m ≡ true → (k : ℕ) → k < m → rowDue t k n ≡ true
-  unfolding rowsDue
-  row-of zero h k u = absurd (omega arith)
-  row-of (suc m) h k u =
-      let b = both (rowsDue t n m) (rowDue t m n) h in
-      by-place (eq-or-lt-of-le {n = k} {m = m} (omega arith)) (b .1) (λ w. row-of m (b .0) k w)
-    where
-      by-place : (k ≡ m) ⊎ (k < m) → rowDue t m n ≡ true → (k < m → rowDue t k n ≡ true) → rowDue t k n ≡ true
-      by-place (inl e) here ih = ap (λ (i : ℕ). rowDue t i n) e ∙ here
-      by-place (inr w) here ih = ih w
-
-  -- Columns that pass the check have values of at most 2^44 where no mark is due.
-  pub due-low : columnsDue t n ≡ true → Low t (suc n)
-  due-low h k j few l u = leb-true _ _ (sym (cell-low t k j l) ∙ cell-of t k n (row-of maxRows h k few) j (omega arith) (omega arith))

@@ -20,7 +20,8 @@ use Rattle.stream.specs.Claims.{SameColumns, LeftTo, HoldsLeast, LeftCla
 use Rattle.stream.specs.Inner.{ColumnFrom}
 use Rattle.stream.proofs.Columns.{column-kept, next-mark, next-least}
 use Rattle.stream.proofs.Cases.{extend-refusal}
-use Rattle.stream.proofs.StaysDue.{columns-due, cells-due, cell-due-same, next-placed, may-fill, table-left, stays-due}
+use Rattle.stream.proofs.Due.{columns-due, cells-due, cell-due-same}
+use Rattle.stream.proofs.StaysDue.{next-placed, may-fill, table-left, stays-due}
 
 -- The least loss over the first j samples is that of any front with them.
 front-least : (xs : List ℤ) (n k j : ℕ) → k < j → j ≤ n → n ≤ length xs → least (take n xs) k j ≡ least xs k j

@@ -1,18 +1,16 @@
 -- The search for a last segment in a row of the table: the losses of last segments that end at one place, the least sum and the first
 -- start that has it, and that these are the ones of the definitions.
-use mathlib.Core.Path.{_≡_, refl, sym, _∙_, ap, subst}
+use mathlib.Core.Path.{_≡_, refl, sym, _∙_, ap}
 use mathlib.Core.Logic.{⊎-elim}
 use mathlib.Core.List.{List}
 use Prim.Native.Nat.{ℕ, zero, suc, _+_, _*_, _-_, _≤_, _<_}
 use native.Mathlib.Nat.{eq-or-lt-of-le}
 use native.Mathlib.Decide.{decLe}
-use native.Mathlib.Numerals.{add-one}
 use native.Mathlib.Omega.{arith}
-use lib.IntN.{ℤ, pos}
-use lib.ListN.{length, getD, take}
+use lib.IntN.{ℤ}
+use lib.ListN.{length, getD}
 use lib.Seq.{slice, length-slice}
-use Rattle.path.specs.Refusal.{maxLoss}
-use Rattle.segment.specs.Segment.{maxSamples, Samples16, segmentLoss}
+use Rattle.segment.specs.Segment.{maxSamples}
 use Rattle.segment.specs.Inner.{maxSquare, TailLosses}
 use Rattle.segment.proofs.Bounds.{segment-low, slice-fits}
 use Rattle.least.specs.Segmentation.{lossWithLast, lastStart}
@@ -20,7 +18,7 @@ use Rattle.least.specs.Inner.{before}
 use Rattle.least.proofs.Earliest.{Earliest}
 use Rattle.least.proofs.LeastLosses.{lastStart-earliest, loss-split}
 use Rattle.stream.specs.Table.{maxRows, tableLen, value}
-use Rattle.stream.specs.Inner.{Low, sumAt, SumsFrom, LeastSum, FirstStart, LastFrom, LastIs}
+use Rattle.stream.specs.Inner.{Low, sumAt, SumsFrom, LeastSum, FirstStart, LastIs}
 
 -- While the sums are looked at from the latest start down to i, the best one is that of one of these starts, and none of them is less.
 pub record Best (table owns : List ℕ) (k to i best : ℕ) : Type 0 where

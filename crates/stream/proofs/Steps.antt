@@ -2,24 +2,23 @@
 -- outcome of both.
 use mathlib.Core.Path.{_≡_, refl, sym, _∙_, ap, subst}
 use mathlib.Core.List.{List}
-use Prim.Native.Nat.{ℕ, zero, suc, _+_, _*_, _-_, min, _≤_, _<_}
+use Prim.Native.Nat.{ℕ, zero, suc, _-_, min, _≤_, _<_}
 use native.Mathlib.Omega.{arith}
-use lib.IntN.{ℤ, pos}
+use lib.IntN.{ℤ}
 use lib.ListN.{length, getD}
 use lib.Seq.{take-length}
 use Rattle.path.specs.Model.{Model}
 use Rattle.layout.specs.Item.{setItem}
 use Rattle.layout.proofs.Laws.{length-setItem}
-use Rattle.segment.specs.Segment.{maxSamples, Samples16, segmentLoss}
+use Rattle.segment.specs.Segment.{Samples16, segmentLoss}
 use Rattle.segment.specs.Inner.{TailLosses}
-use Rattle.least.specs.Segmentation.{lossWithLast, lastStart}
 use Rattle.signal.specs.Signal.{pathBy}
 use Rattle.signal.specs.Inner.{lossesIn, PathWritten}
 use Rattle.signal.proofs.Paths.{path-agrees}
 use Rattle.stream.specs.Table.{maxRows, cellPlace, value, nextValue, withColumn, columnLosses}
 use Rattle.stream.specs.Extend.{StreamBuffers, streamBuffers, columnPath, extendedTo}
 use Rattle.stream.specs.Inner.{LeastSum, NextFrom, ColumnRead, extended}
-use Rattle.stream.proofs.Columns.{column-kept, next-mark, next-sum, next-same}
+use Rattle.stream.proofs.Columns.{column-kept, next-sum, next-same}
 use Rattle.stream.proofs.Starts.{least-is}
 
 -- The value of one segment is its loss.

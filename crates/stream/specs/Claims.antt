@@ -12,10 +12,10 @@ use Rattle.least.specs.Segmentation.{least}
 use Rattle.least.specs.Scratch.{scratchLen}
 use Rattle.signal.specs.Signal.{sizeCount}
 use Rattle.signal.specs.SignalPath.{PathBuffers, pathBuffers, SignalPathOutcome, signalPathOf}
-use Rattle.signal.specs.Split.{SplitBuffers, SplitOutcome, splitOf}
+use Rattle.signal.specs.Split.{SplitOutcome, splitOf}
 use Rattle.stream.specs.Table.{maxRows, mark, value, columnsDue}
-use Rattle.stream.specs.Extend.{StreamBuffers, streamBuffers, ExtendOutcome, extendOf}
-use Rattle.stream.specs.SplitFrom.{SegmentBuffers, segmentBuffers, SplitFromOutcome, splitFromOf}
+use Rattle.stream.specs.Extend.{StreamBuffers, ExtendOutcome, extendOf}
+use Rattle.stream.specs.SplitFrom.{SegmentBuffers, SplitFromOutcome, splitFromOf}
 
 -- Two tables have the same first n columns.
 abbrev pub SameColumns : ℕ → List ℕ → List ℕ → Type 0

@@ -5,12 +5,11 @@
 ghost use mathlib.Core.Path.{_≡_};
 ghost use mathlib.Core.Bool.{true};
 ghost use mathlib.Core.List.{[], _∷_, _++_};
-ghost use Prim.Native.Nat.{_+_, _≤_, _<_, min};
+ghost use Prim.Native.Nat.{_+_, _≤_, _<_};
 ghost use lib.ListN.{length};
 ghost use Rattle.path.specs.Refusal.{refusalOf};
 ghost use Rattle.select.specs.Penalty.{validPenalty};
 ghost use Rattle.segment.specs.Segment.{maxSamples, Samples16};
-ghost use Rattle.segment.specs.Inner.{TailLosses};
 ghost use Rattle.signal.specs.Inner.{PathWritten};
 ghost use Rattle.stream.specs.Table.{maxRows, tableLen, value, cellDue, rowDue, columnsDue, nextValue, withColumn};
 ghost use Rattle.stream.specs.Extend.{tableChecks, extendChecks, columnPath, streamBuffers, extendOutcome, extendedTo, extendOf};

@@ -1,8 +1,10 @@
 // Lists of numbers, read and written with no index out of range. A value past the end is NONE, so that a list that is too short
 // counts as a fault where it is compared.
 
+ghost use Prim.Native.Nat.{_≤_};
 use crate::number::NONE;
 use crate::number::differs;
+use crate::number::minus;
 use crate::number::plus;
 
 // What the buffers of a test hold before a call, which is no size and no loss.
@@ -60,4 +62,18 @@ pub fn differences(values: &[u64], right: &[u64]) -> u64 {
         count = plus(count, differs(at(values, i), at(right, i)));
     }
     count
+}
+
+// A number of places, and at most all of them. With more no call is made.
+pub fn within(n: usize, all: usize) -> usize
+    ensures { λ r. ⌜ r ≤ all ⌝ }
+{
+    if n < all { n } else { all }
+}
+
+// The distance of the values i and i + 1 of a buffer of 40 places.
+pub fn gap(values: &[u64; 40], i: u64) -> u64 {
+    let here = at(values, i as usize);
+    let after = at(values, plus(i, 1) as usize);
+    plus(minus(here, after), minus(after, here))
 }

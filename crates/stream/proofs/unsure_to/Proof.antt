@@ -1,5 +1,4 @@
 -- `stream::unsure_to` meets its contract. The invariant: the values passed are as is due if the sum is 0.
-use mathlib.Core.Path.{_≡_, sym, _∙_, ap}
 use Prim.Native.Nat.{_-_}
 use native.Mathlib.Omega.{arith}
 use borrow.Author.Needs.{needs}

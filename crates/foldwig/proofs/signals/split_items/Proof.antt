@@ -78,7 +78,7 @@ returns c =
     let sizes = c .before .before .before .before .before .before .before .before .before .before .before .before .before .before .before .before .before .before .before .before .before .before .before .before .before .read-items in
     let losses = c .before .before .before .before .before .before .before .before .before .before .before .before .before .before .before .before .before .before .before .before .read-items2 in
     let read = splitOf (samples .last .1 .0) (a .max-segments) (a .p) (a .q) (splitBuffers (starts .last .1 .0) (levels .last .1 .0) (sizes .last .1 .1 .0) (losses .last .1 .1 .0) (a .scratch .now)) in
-    let o = splitOf (firstSamples (counts start .path) (a .samples .now)) (a .max-segments) (a .p) (a .q) (splitItems (counts start) (lent start)) in
+    let o = splitOf (firstSamples (counts start .path .samples) (a .samples .now)) (a .max-segments) (a .p) (a .q) (splitItems (counts start) (lent start)) in
     let is = _∙_ {a = splitOutcome (made .result) after} {b = read} {c = o} (made .ensures .0) (λ i. splitOf (samples .ensures i) (a .max-segments) (a .p) (a .q) (splitBuffers (starts .ensures i) (levels .ensures i) (sizes .ensures i) (losses .ensures i) (a .scratch .now))) in
     split-unwritten (counts start) (a .samples .now) (lent start)
     record {
@@ -145,7 +145,7 @@ returns-2 c =
     let sizes = c .before .before .before .before .before .before .before .before .before .before .before .before .before .before .before .before .before .before .before .before .before .before .before .before .before .before .before .before .before .before .before .before .before .before .before .before .before .before .before .before .before .before .before .before .before .read-items in
     let losses = c .before .before .before .before .before .before .before .before .before .before .before .before .before .before .before .before .before .before .before .before .before .before .before .before .before .before .before .before .before .before .before .before .before .before .before .before .before .before .before .before .read-items2 in
     let read = splitOf (samples .last .1 .0) (a .max-segments) (a .p) (a .q) (splitBuffers (starts .last .1 .0) (levels .last .1 .0) (sizes .last .1 .1 .0) (losses .last .1 .1 .0) (a .scratch .now)) in
-    let o = splitOf (firstSamples (counts start .path) (a .samples .now)) (a .max-segments) (a .p) (a .q) (splitItems (counts start) (lent start)) in
+    let o = splitOf (firstSamples (counts start .path .samples) (a .samples .now)) (a .max-segments) (a .p) (a .q) (splitItems (counts start) (lent start)) in
     let is = _∙_ {a = splitOutcome (made .result) after} {b = read} {c = o} (made .ensures .0) (λ i. splitOf (samples .ensures i) (a .max-segments) (a .p) (a .q) (splitBuffers (starts .ensures i) (levels .ensures i) (sizes .ensures i) (losses .ensures i) (a .scratch .now))) in
     let starts-long = made .kept .1 .1 .1 .1 .0 ∙ starts .kept .1 .0 in
     let levels-long = made .kept .1 .1 .1 .1 .1 .0 ∙ levels .kept .1 .0 in
