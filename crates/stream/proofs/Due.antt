@@ -1,5 +1,5 @@
 -- Facts on the check of 12: columns pass it where each of their values does, and then a value is at most 2^44 where no mark is due. A walk
--- from the last place back ends at the first that fails, and values that sum up to 0 when divided by 2^44 are as is due.
+-- from the last place back ends at the first that fails, and values whose bits together make no number above 2^44 are as is due.
 use mathlib.Core.Path.{_≡_, refl, sym, _∙_, ap}
 use mathlib.Core.Logic.{_⊎_, inl, inr, ⊎-elim}
 use mathlib.Core.Bool.{Bool, true, false, cond, _&&_}
@@ -7,6 +7,7 @@ use mathlib.Core.List.{List}
 use Prim.Native.Nat.{ℕ, zero, suc, _+_, _*_, _-_, _/_, min, _≤_, _<_}
 use native.Mathlib.Nat.{eq-or-lt-of-le}
 use native.Mathlib.Omega.{arith}
+use lib.Bits.{bitOr, or-add-and, and-le-l, and-le-r}
 use lib.Dec.{ltb, leb, eqb}
 use borrow.Author.Tests.{lt-ltb, le-ltb, leb-true, le-leb, eq-eqb}
 use Rattle.path.specs.Refusal.{maxLoss}
@@ -99,32 +100,32 @@ module _ (t : List ℕ) (k : ℕ) where
       row-back (suc n) (omega arith) (due (suc n) l (omega arith)) ∙ ap (rowDue t k) p ∙ row-skips m n (omega arith) (λ j u w. due j u (omega arith)))
       (eq-or-lt-of-le {n = m} {m = suc n} h)
 
--- While a row is summed up, the values passed are small if the sum is 0.
-pub record Summed (t : List ℕ) (k n j sum : ℕ) : Type 0 where
+-- While the bits of a row's values are gathered, no value passed exceeds them.
+pub record Gathered (t : List ℕ) (k j bits : ℕ) : Type 0 where
   pub low : k ≤ j
-  pub high : j ≤ n ⊎ j ≤ k
-  pub small : sum ≤ 1048576 * j
-  pub due : sum ≡ 0 → (i : ℕ) → k < i → i ≤ j → cellDue t k i ≡ true
+  pub most : (i : ℕ) → k < i → i ≤ j → value t k i ≤ bits
+
+-- Two numbers do not exceed their bits together.
+or-most : (a b : ℕ) → (a ≤ bitOr a b) × (b ≤ bitOr a b)
+or-most a b = (omega (arith, or-add-and a b, and-le-r a b), omega (arith, or-add-and a b, and-le-l a b))
 
 module _ (t : List ℕ) (k n : ℕ) where
-  pub summed-start : Summed t k n k 0
-  summed-start = record { low = omega arith; high = inr (omega arith); small = omega arith; due = λ z i l u. absurd (omega arith) }
+  pub gathered-start : Gathered t k k 0
+  gathered-start = record { low = omega arith; most = λ i l u. absurd (omega arith) }
 
-  pub summed-next : (j sum v : ℕ) → j < n → Summed t k n j sum → v ≡ value t k (j + 1) → v / maxLoss ≤ 1048576 → Summed t k n (j + 1) (sum + v / maxLoss)
-  summed-next j sum v h s e fits =
+  pub gathered-next : (j bits v : ℕ) → Gathered t k j bits → v ≡ value t k (j + 1) → Gathered t k (j + 1) (bitOr bits v)
+  gathered-next j bits v g e =
       record {
-        low = omega (arith, s .low);
-        high = inl (omega arith);
-        small = omega (arith, s .small);
-        due = λ z i l u. ⊎-elim
-            (λ (q : i ≡ j + 1). ap (cellDue t k) q ∙ low-due t k (j + 1) (omega (arith, s .low)) (omega arith))
-            (λ (q : i < j + 1). s .due (omega arith) i l (omega arith))
+        low = omega (arith, g .low);
+        most = λ i l u. ⊎-elim
+            (λ (q : i ≡ j + 1). omega (arith, ap (value t k) q, or-most bits v .1))
+            (λ (q : i < j + 1). omega (arith, g .most i l (omega arith), or-most bits v .0))
             (eq-or-lt-of-le {n = i} {m = j + 1} u);
       }
 
-  pub summed-done : (j sum m : ℕ) → n ≤ j → Summed t k n j sum → sum ≡ 0 → m ≡ min k n → DueFrom t k n m
-  summed-done j sum m h s z e =
-      record { most = omega arith; rest = row-skips t k m n (omega arith) (λ i l u. s .due z i (omega arith) (omega arith)) }
+  pub gathered-done : (j bits m : ℕ) → n ≤ j → Gathered t k j bits → bits ≤ maxLoss → m ≡ min k n → DueFrom t k n m
+  gathered-done j bits m h g low e =
+      record { most = omega arith; rest = row-skips t k m n (omega arith) (λ i l u. low-due t k i (omega arith) (omega (arith, g .most i (omega arith) (omega arith)))) }
 
   pub all-unsure : DueFrom t k n n
   all-unsure = record { most = omega arith; rest = refl }

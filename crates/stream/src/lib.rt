@@ -76,19 +76,19 @@ fn cell_due(table: &[u8], k: usize, j: usize) -> bool
     v == MARK
 }
 
-// How far the first n columns of row k have to be looked at one by one: not at all where no mark is due if all these values, divided by
-// 2^44, sum up to 0. A sum, with nothing decided on the way, is made several values at a time.
+// How far the first n columns of row k have to be looked at one by one: where no mark is due not at all, if the bits of all these values
+// together make no number above 2^44. With nothing decided on the way, several values are taken at a time.
 fn unsure_to(table: &[u8], k: usize, n: usize) -> usize
     requires { ⌜ RowIn (now table) k n ⌝ }
     ensures { λ r. ⌜ DueFrom (now (table .entry)) k n r ⌝ }
 {
-    let mut sum: u64 = 0;
+    let mut bits: u64 = 0;
     let mut j = k;
     while j < n {
         j += 1;
-        sum += value_at(table, k, j) / MAX_LOSS;
+        bits = bits | value_at(table, k, j);
     }
-    if sum == 0 { smaller(k, n) } else { n }
+    if bits <= MAX_LOSS { smaller(k, n) } else { n }
 }
 
 // Whether the values of row k in the first n columns are as is due.

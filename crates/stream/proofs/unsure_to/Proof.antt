@@ -1,19 +1,19 @@
--- `stream::unsure_to` meets its contract. The invariant: the values passed are as is due if the sum is 0.
+-- `stream::unsure_to` meets its contract. The invariant: no value passed exceeds the bits gathered.
 use Prim.Native.Nat.{_-_}
 use native.Mathlib.Omega.{arith}
 use borrow.Author.Needs.{needs}
-use Rattle.stream.proofs.Due.{Summed, summed-start, summed-next, summed-done, all-unsure}
+use Rattle.stream.proofs.Due.{Gathered, gathered-start, gathered-next, gathered-done, all-unsure}
 use Rattle.stream.proofs.unsure_to.Statement.{statement}
 use Rattle.stream.proofs.unsure_to.Tie as tie
 
 abbrev Inv-loop : tie.InvT-loop
-Inv-loop table k n sum₀ j₀ sum j = Summed table k n j sum
+Inv-loop table k n bits₀ j₀ bits j = Gathered table k j bits
 
 abbrev μ-loop : tie.MeasureT-loop
-μ-loop table k n sum₀ j₀ sum j = n - j
+μ-loop table k n bits₀ j₀ bits j = n - j
 
 loop-holds : tie.Need-loop-holds Inv-loop μ-loop
-loop-holds c = summed-start (c .before .args .table .now) (c .before .args .k) (c .before .args .n)
+loop-holds c = gathered-start (c .before .args .table .now) (c .before .args .k) (c .before .args .n)
 
 add-j : tie.Need-add-j Inv-loop μ-loop
 add-j c = omega (arith, c .before .before .before .pre .within)
@@ -21,16 +21,13 @@ add-j c = omega (arith, c .before .before .before .pre .within)
 value-at-requires : tie.Need-value-at-requires Inv-loop μ-loop
 value-at-requires c κs = record { few = c .before .before .before .pre .few; one = omega arith; within = omega (arith, c .before .before .before .pre .within); long = c .before .before .before .pre .long }
 
-add-sum : tie.Need-add-sum Inv-loop μ-loop
-add-sum c = omega (arith, c .before .before .loop .inv .small, c .before .before .before .before .pre .within)
-
 loop-less : tie.Need-loop-less Inv-loop μ-loop
 loop-less c = omega arith
 
 loop-again : tie.Need-loop-again Inv-loop μ-loop
 loop-again c =
     let a = c .before .before .before .before .args in
-    summed-next (a .table .now) (a .k) (a .n) (c .before .before .loop .j) (c .before .before .loop .sum) (c .value-at .result) (c .before .loop-test .taken) (c .before .before .loop .inv) (c .value-at .ensures) (omega arith)
+    gathered-next (a .table .now) (a .k) (a .n) (c .before .before .loop .j) (c .before .before .loop .bits) (c .value-at .result) (c .before .before .loop .inv) (c .value-at .ensures)
 
 smaller-requires : tie.Need-smaller-requires Inv-loop μ-loop
 smaller-requires c κs = search needs
@@ -38,7 +35,7 @@ smaller-requires c κs = search needs
 returns : tie.Need-returns Inv-loop μ-loop
 returns c =
     let a = c .before .before .before .before .before .args in
-    summed-done (a .table .now) (a .k) (a .n) (c .before .before .before .loop .j) (c .before .before .before .loop .sum) (c .smaller .result) (omega arith) (c .before .before .before .loop .inv) (c .before .if1 .taken) (c .smaller .ensures)
+    gathered-done (a .table .now) (a .k) (a .n) (c .before .before .before .loop .j) (c .before .before .before .loop .bits) (c .smaller .result) (omega arith) (c .before .before .before .loop .inv) (c .before .if1 .taken) (c .smaller .ensures)
 
 returns-2 : tie.Need-returns-2 Inv-loop μ-loop
 returns-2 c = all-unsure (c .before .before .before .before .args .table .now) (c .before .before .before .before .args .k) (c .before .before .before .before .args .n)
@@ -52,7 +49,6 @@ unsure-to-spec =
     loop-holds
     add-j
     value-at-requires
-    add-sum
     loop-less
     loop-again
     smaller-requires
