@@ -185,7 +185,7 @@ static void print_ratio(double draws[][JOBS], unsigned count, enum job job, enum
 
 static void print_seasons(double least[][JOBS])
 {
-    puts("| signal | plain C season | season of extends | three fresh calls | season / three fresh calls |\n|---|---|---|---|---|");
+    puts("| signal | plain C season | season of extensions | three fresh calls | season / three fresh calls |\n|---|---|---|---|---|");
     for (enum kind kind = 0; kind < KINDS; least += draws_of(kind), kind++) {
         printf("| %s |", kind_names[kind]);
         print_times(least, draws_of(kind), PLAIN_SEASON, 1, 0);

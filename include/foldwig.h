@@ -80,8 +80,8 @@ extern "C" {
 #define FOLDWIG_BREAKPOINTS_ENTRIES_STACK 66000
 #define FOLDWIG_SIGNAL_PATH_STACK 17000
 #define FOLDWIG_SPLIT_STACK 17000
-#define FOLDWIG_EXTEND_STACK 17000
-#define FOLDWIG_SPLIT_FROM_STACK 17000
+#define FOLDWIG_EXTEND_STACK 7000
+#define FOLDWIG_SPLIT_FROM_STACK 6000
 
 /* The widths of items in bytes. */
 #define FOLDWIG_SAMPLE_LEN 2
@@ -290,7 +290,7 @@ struct foldwig_split_result foldwig_split(const uint8_t *samples, size_t samples
  * Refusals, in order: 11, 2 if the samples with the new one are more than 512, 3, 9 for a table that is too short, 12, 9. For 12
  * all 16 rows of the columns of the samples so far are looked at, under any limit. The path's buffers need as many places as the
  * smaller of max_segments and the number of samples with the new one.
- * Stack: below 17 KB.
+ * Stack: below 7 KB.
  */
 struct foldwig_extend_result foldwig_extend(const uint8_t *samples, size_t samples_len, int16_t sample, uint64_t max_segments,
                                             uint8_t *table, size_t table_len, uint8_t *path_sizes, size_t path_sizes_len,
@@ -305,7 +305,7 @@ struct foldwig_extend_result foldwig_extend(const uint8_t *samples, size_t sampl
  * Refusals, in order: 11, 1, 2, 3, 9 for a table that is too short, 12, 4, 9. For 12 all 16 rows of the columns of all samples are
  * looked at, under any limit. starts and levels need as many places as the smaller of max_segments and the number of samples, even
  * if fewer segments come out.
- * Stack: below 17 KB.
+ * Stack: below 6 KB.
  */
 struct foldwig_split_from_result foldwig_split_from(const uint8_t *samples, size_t samples_len, uint64_t max_segments, uint64_t p,
                                                     uint64_t q, const uint8_t *table, size_t table_len, uint8_t *starts,

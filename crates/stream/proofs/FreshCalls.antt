@@ -68,7 +68,7 @@ extend-claim samples sample limit b scratch small left ok long =
     let t = withColumn xs (b .table) maxRows in
     let leaves : Left xs t = subst (λ (u : List ℕ). Left xs u) (λ i. done i .buffers .table) (extend-leaves samples sample limit b left ok) in
     let count = sizeCount xs limit in
-    let same : columnPath t (length xs) count ≡ signalPath xs count = column-path xs t count (left-claim xs t small (from .short) leaves) (omega (arith, from .few)) (omega arith) in
+    let same : columnPath t (length xs) count ≡ signalPath xs count = column-path xs t count (left-claim xs t small leaves) (omega (arith, from .few)) (omega arith) in
     let lent = pathBuffers (b .sizes) (b .losses) scratch in
     let fresh = path-accepted xs limit lent (fresh-path-passes xs limit lent (from .some) (from .short) (from .one) (from .few) (from .sizes-fit, (from .losses-fit, tt)) long) in
     record {
@@ -126,7 +126,7 @@ split-from-claim xs limit p q t b path small left ok fits =
     let r = splittable n limit p q t (length (b .starts)) (length (b .levels)) accepted in
     let done = sym (split-from-accepted xs limit p q t b accepted) in
     let count = sizeCount xs limit in
-    let holds = left-claim xs t small (r .short) left in
+    let holds = left-claim xs t small left in
     let same : columnPath t n count ≡ signalPath xs count = column-path xs t count holds (omega (arith, r .few)) (omega arith) in
     let k = segmentsAt (signalPath xs count) p q in
     let size : segmentsAt (columnPath t n count) p q ≡ k = ap (λ (st : List Model). segmentsAt st p q) same in

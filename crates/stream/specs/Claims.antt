@@ -7,7 +7,7 @@ use mathlib.Core.List.{List, [], _∷_, _++_}
 use Prim.Native.Nat.{ℕ, zero, suc, _≤_, _<_}
 use lib.IntN.{ℤ, pos}
 use lib.ListN.{length, getD, take}
-use Rattle.segment.specs.Segment.{maxSamples, Samples16}
+use Rattle.segment.specs.Segment.{Samples16}
 use Rattle.least.specs.Segmentation.{least}
 use Rattle.least.specs.Scratch.{scratchLen}
 use Rattle.signal.specs.Signal.{sizeCount}
@@ -44,13 +44,13 @@ pub record HoldsLeast (xs : List ℤ) (n : ℕ) (table : List ℕ) : Type 0 wher
 -- Such a table holds the least losses.
 abbrev pub LeftClaim : Type 0
 LeftClaim =
-    (samples : List ℤ) (table : List ℕ) → Samples16 samples → length samples ≤ maxSamples → Left samples table
+    (samples : List ℤ) (table : List ℕ) → Samples16 samples → Left samples table
     → HoldsLeast samples (length samples) table
 
 -- No call on it is refused under 12.
 abbrev pub NeverTwelve : Type 0
 NeverTwelve =
-    (samples : List ℤ) (table : List ℕ) → Samples16 samples → length samples ≤ maxSamples → Left samples table
+    (samples : List ℤ) (table : List ℕ) → Samples16 samples → Left samples table
     → columnsDue table (length samples) ≡ true
 
 -- Nor does an accepted extension, whatever its table held, lead to a refusal under 12. A new value of one segment is a loss of at most
