@@ -24,21 +24,18 @@ const OFFSET: i32 = 32768;
 // The number whose quotients are the reciprocals, 2^36.
 const RECIPROCAL_ONE: u64 = 68719476736;
 
-// The whole number nearest sum / len; of two equally near, the lower.
+// The whole number nearest sum / len; of two equally near, the lower. That is (2 sum + len - 1) / 2 len, rounded down. A division rounds
+// toward zero, so a remainder below zero takes 1 off: a shift leaves its sign, which is that -1. Nothing is tested on the way. Since the
+// divisor is made from 16 bits and 1, the compiler sees that it is not 0 and adds no test of that either.
 fn level(sum: i32, len: i32) -> i32
     requires { ⌜ (natAbs sum ≤ offset * maxSamples) × ((pos 1 ≤ℤ len) × (len ≤ℤ pos maxSamples)) ⌝ }
     ensures { λ r. ⌜ r ≡ level sum (natAbs len) ⌝ }
 {
-    let q = sum / len;
-    let r = sum % len;
-    let d = r + r;
-    if d > len {
-        return q + 1;
-    }
-    if d <= 0 - len {
-        return q - 1;
-    }
-    q
+    let others = (len - 1) as u16;
+    let d = 2 * (others as i32 + 1);
+    let x = 2 * sum + len - 1;
+    let r = x % d;
+    x / d + (r >> 31)
 }
 
 // A raised sample.
