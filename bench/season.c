@@ -1,9 +1,11 @@
 // Times a season, 512 samples that foldwig_extend is given one by one on one table, beside fresh calls of foldwig_signal_path on all of
 // them and beside the same table in plain C (season_plain.c), and one foldwig_split_from on the table beside a fresh foldwig_split. All
 // of it runs in one process and in turns, and each turn goes through all signals; a time is the least CPU time of a season, or of a
-// call, over all turns. Before that it compares tables, paths and segmentations. Ends with status 1 where they differ, or where a
-// season is slower than three fresh calls and should not be.
-// Usage: season [TURNS]
+// call, over all turns. Before that it compares tables, paths and segmentations, and ends with status 1 where they differ.
+// Usage: season time [TURNS]     prints the times, a line for each signal
+//        season tables FILE...   prints tables of such times, and ends with status 1 where a season is slower than three fresh calls
+//                                and should not be. With several files, as of programs with the calls at different places in memory,
+//                                a time is the mean over them.
 #include "season_plain.h"
 #include "signals.h"
 #include "tables.h"
@@ -255,23 +257,63 @@ static void forget(double least[MAX_SIGNALS][JOBS])
             least[i][job] = 1e30;
 }
 
-int main(int argc, char **argv)
+// Compares what the jobs leave, then times them and prints the least times.
+static int print_least(const struct signal *signals, int count, int turns)
 {
-    static struct signal signals[MAX_SIGNALS];
     static double least[MAX_SIGNALS][JOBS];
-    int turns = argc > 1 ? atoi(argv[1]) : 15;
-    int count = make_signals(signals, MAX_SAMPLES);
     if (!all_same(signals, count))
         return 1;
     forget(least);
     for (int t = 0; t < turns; t++)
         take_turn(signals, count, least);
-    printf("Tables, paths and segmentations are equal. %d samples, limit %d, microseconds, least of %d turns:\n\n", MAX_SAMPLES, LIMIT,
-           turns);
-    print_seasons(least);
+    for (int i = 0; i < count; i++)
+        for (enum job job = 0; job < JOBS; job++)
+            printf("%.3f%c", least[i][job], job + 1 < JOBS ? ' ' : '\n');
+    return 0;
+}
+
+// Adds 1 / parts of the times in a file. Says whether there were as many as are due.
+static bool add_times(const char *file, int count, int parts, double times[][JOBS])
+{
+    FILE *in = fopen(file, "r");
+    bool whole = in != NULL;
+    for (int i = 0; i < count && whole; i++)
+        for (enum job job = 0; job < JOBS && whole; job++) {
+            double time = 0;
+            whole = fscanf(in, "%lf", &time) == 1 && time > 0;
+            times[i][job] += time / parts;
+        }
+    if (in != NULL)
+        fclose(in);
+    return whole;
+}
+
+static int print_tables(char **files, int parts, int count)
+{
+    static double times[MAX_SIGNALS][JOBS];
+    for (int i = 0; i < parts; i++)
+        if (!add_times(files[i], count, parts, times)) {
+            printf("%s has not the times of all signals\n", files[i]);
+            return 1;
+        }
+    printf("Tables, paths and segmentations are equal. %d samples, limit %d, microseconds, mean over %d places of the calls in memory:\n\n",
+           MAX_SAMPLES, LIMIT, parts);
+    print_seasons(times);
     printf("\nOne split at the penalty %d / %d:\n\n", P, Q);
-    print_splits(least);
-    bool reached = print_slower(least);
+    print_splits(times);
+    bool reached = print_slower(times);
     printf("\n%s\n", reached ? "All that is wanted is reached." : "NOT all that is wanted is reached.");
     return reached ? 0 : 1;
+}
+
+int main(int argc, char **argv)
+{
+    static struct signal signals[MAX_SIGNALS];
+    int count = make_signals(signals, MAX_SAMPLES);
+    if (argc > 1 && strcmp(argv[1], "time") == 0)
+        return print_least(signals, count, argc > 2 ? atoi(argv[2]) : 15);
+    if (argc > 2 && strcmp(argv[1], "tables") == 0)
+        return print_tables(argv + 2, argc - 2, count);
+    fputs("usage: season time [TURNS] | season tables FILE...\n", stderr);
+    return 2;
 }

@@ -592,6 +592,30 @@ static void split_figures(void)
     expect(compare_split(1, 1, 1).refusal == 2, "513 samples");
 }
 
+// One segment for each mean from a whole number to the next, by steps of so many parts of its length. A half has the lower level.
+static void level_steps(size_t n, size_t step)
+{
+    static const int lower[] = {-32768, -3, -1, 0, 2, 32766};
+    static int samples[512];
+    for (size_t i = 0; i < sizeof lower / sizeof lower[0]; i++)
+        for (size_t above = 0; above <= n; above += step) {
+            int level = lower[i] + (2 * above > n);
+            char wanted[2] = {(char)(level & 0xff), (char)(level >> 8 & 0xff)};
+            for (size_t j = 0; j < n; j++)
+                samples[j] = lower[i] + (j < above);
+            put_samples(samples, n);
+            expect(compare_split(1, 0, 1).segments == 1 && bytes_are(2, wanted, 2), "the level of one segment");
+        }
+}
+
+static void level_figures(void)
+{
+    for (size_t n = 1; n <= 40; n++)
+        level_steps(n, 1);
+    level_steps(511, 73);
+    level_steps(512, 64);
+}
+
 // ---- Figures of flat stretches
 
 // Whether the buffer of the sizes and the next one hold so many entries, and zeros behind them up to an end.
@@ -931,6 +955,7 @@ int main(int argc, char **argv)
     map_buffers();
     path_figures();
     split_figures();
+    level_figures();
     flat_figures();
     largest_numbers();
     stream_figures();
