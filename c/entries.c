@@ -2,8 +2,9 @@
 // the same numbers. Afterwards every field of the answers is compared, every element of every array with the items that the byte
 // strings then hold, and the guards beside the arrays. A size of 65,536 or more has no place in two bytes and stands as 0 in the
 // byte strings, which is out of range as well; where no call writes it has to stay. The refusals are compared besides with those
-// that R36 to R41 of docs/RULES.md give, on the numbers themselves. Flat stretches, which are models with equal losses, have
-// figures of their own.
+// that R36 to R41 of docs/RULES.md give, on the numbers themselves. Each build is made once more as a quadratic one, whose outcome
+// is compared besides with that of the build and with the path that the reference finds by slopes. Flat stretches, which are models
+// with equal losses, have figures of their own.
 // Usage: entries [SEED]
 // A seed leads to the same calls again if the same compiler is used.
 //
@@ -29,8 +30,15 @@
 //   18  a test is expected for a model that an append passes over
 //   19  N in the count of tests, 2 N - 1 - M, counts models that were passed over
 //   20  a byte of an array is changed by an append that passes a model over
+//   21  a quadratic build is expected to answer the tests of a build
+//   22  the path by slopes is asked for without the last model
+//   23  the rules look at the room of a quadratic build before its models
+//   24  a bit behind the places that a quadratic build writes is changed
+//   25  the sizes behind the path of a quadratic build are expected to be 1
+//   26  the rules have too many models of a quadratic build behind a bad one
 #define _DEFAULT_SOURCE
 #include "../include/foldwig.h"
+#include "reference.h"
 #include "span.h"
 #include <stdio.h>
 #include <stdlib.h>
@@ -41,15 +49,24 @@
 #define FAULT 0
 #endif
 
-enum { MOST = 4104, PAGES = 1 << 17, MOST_MISMATCHES = 10 };
+// After so many mismatches the test ends. c/check says 1 for the runs with a planted fault.
+#ifndef MOST_MISMATCHES
+#define MOST_MISMATCHES 10
+#endif
+
+enum { MOST = 4104, PAGES = 1 << 17 };
+
+// A list is long if it has more models than this. One in so many of these is built by the quadratic method too.
+enum { LONG = 1000, RARE = 4 };
 
 static const uint64_t TOP = (uint64_t)1 << 44;
 
-// The four calls, as the tallies number them, and the refusals of each in their order, ended by 0.
-enum call { APPEND, BUILD, SELECT, BREAKPOINTS, CALLS };
+// The five calls, as the tallies number them, and the refusals of each in their order, ended by 0.
+enum call { APPEND, BUILD, BUILD_QUADRATIC, SELECT, BREAKPOINTS, CALLS };
 
-static const char *const names[CALLS] = {"append", "build", "select", "breakpoints"};
-static const int orders[CALLS][8] = {{8, 5, 6, 7, 9, 0}, {1, 2, 5, 6, 7, 9, 0}, {8, 10, 4, 0}, {8, 9, 0}};
+static const char *const names[CALLS] = {"append", "build", "build_quadratic", "select", "breakpoints"};
+static const int orders[CALLS][8] = {
+    {8, 5, 6, 7, 9, 0}, {1, 2, 5, 6, 7, 9, 0}, {1, 2, 5, 6, 7, 9, 0}, {8, 10, 4, 0}, {8, 9, 0}};
 
 // The arrays: the path or the models that a call reads, the path that a build makes, and the breakpoints. Each has one or two
 // numbers in an element, and for each of these an own byte string with items of a width.
@@ -57,8 +74,8 @@ enum array { PATH, MADE, NUMERATORS, DENOMINATORS, ARRAYS };
 
 static const size_t columns[ARRAYS] = {2, 2, 1, 1};
 static const size_t widths[ARRAYS][2] = {{2, 8}, {2, 8}, {8, 0}, {2, 0}};
-static const int lent_to[CALLS][ARRAYS] = {{1, 0, 0, 0}, {1, 1, 0, 0}, {1, 0, 0, 0}, {1, 0, 1, 1}};
-static const int writes[CALLS][ARRAYS] = {{1, 0, 0, 0}, {0, 1, 0, 0}, {0, 0, 0, 0}, {0, 0, 1, 1}};
+static const int lent_to[CALLS][ARRAYS] = {{1, 0, 0, 0}, {1, 1, 0, 0}, {1, 1, 0, 0}, {1, 0, 0, 0}, {1, 0, 1, 1}};
+static const int writes[CALLS][ARRAYS] = {{1, 0, 0, 0}, {0, 1, 0, 0}, {0, 1, 0, 0}, {0, 0, 0, 0}, {0, 0, 1, 1}};
 
 // What an array holds before a call, element by element. After a call it is what the call left.
 static struct {
@@ -240,9 +257,12 @@ static void check_array(enum call call, int a, size_t end)
     memcpy(held[a].at, spans[a].at, spans[a].len);
 }
 
-static void plant_in_memory(int refused, int passed)
+static void plant_in_memory(enum call call, int refused, int passed, size_t end)
 {
     struct span *s = &spans[PATH];
+    size_t behind = 2 * end * sizeof held[MADE].at[0];
+    if (FAULT == 24 && call == BUILD_QUADRATIC && !refused && spans[MADE].len > behind)
+        spans[MADE].at[behind] ^= 1;
     if (FAULT == 13 && guard_behind(s) > 9)
         s->at[s->len + 9] ^= 1;
     if (((FAULT == 14 && refused) || (FAULT == 20 && passed)) && s->len > 0)
@@ -256,7 +276,7 @@ static void check(enum call call, const struct answers *a, uint64_t rule, size_t
     int refused = a->got[0] != 0;
     if (is_protected)
         protect_span(&spans[PATH], PROT_READ | PROT_WRITE);
-    plant_in_memory(refused, call == APPEND && !refused && end == 0);
+    plant_in_memory(call, refused, call == APPEND && !refused && end == 0, end);
     calls[call]++;
     if (memcmp(a->got, a->wanted, (size_t)a->fields * sizeof a->got[0]) != 0) {
         print_answers(call, a, "the call on byte strings");
@@ -371,6 +391,17 @@ static uint64_t build_rule(void)
     return refusal != 0 ? refusal : held[MADE].len < n ? 9 : 0;
 }
 
+// The same for a quadratic build, but where a fault is planted.
+static uint64_t build_quadratic_rule(void)
+{
+    size_t n = held[PATH].len;
+    if (FAULT == 23 && n > 0 && n <= 4096 && held[MADE].len < n)
+        return 9;
+    if (FAULT == 26 && n > 4096 && models_refusal(n) != 0)
+        return models_refusal(n);
+    return build_rule();
+}
+
 static uint64_t select_rule(uint64_t n, uint64_t p, uint64_t q)
 {
     if (bad_path(n))
@@ -430,6 +461,71 @@ static struct foldwig_path_result compare_build(void)
     if (got.refusal == 0)
         passed_over[BUILD] += held[PATH].len - (got.tests + 1 + got.entries) / 2;
     return got;
+}
+
+// The entries that a quadratic build has left are those that the reference finds by slopes, and zeros are behind them.
+static void check_slopes(uint64_t entries)
+{
+    static struct model given[MOST], path[MOST];
+    size_t n = held[PATH].len, wanted, same = 0;
+    for (size_t i = 0; i < n; i++) {
+        given[i].size = held[PATH].at[2 * i];
+        given[i].loss = held[PATH].at[2 * i + 1];
+    }
+    wanted = path_by_slopes(given, FAULT == 22 && n > 1 ? n - 1 : n, path);
+    for (size_t i = wanted; i < n; i++) {
+        path[i].size = FAULT == 25;
+        path[i].loss = 0;
+    }
+    while (same < n && held[MADE].at[2 * same] == path[same].size && held[MADE].at[2 * same + 1] == path[same].loss)
+        same++;
+    expect(entries == wanted && same == n, "the path of a quadratic build is not that by slopes");
+}
+
+static struct foldwig_path_result compare_build_quadratic(void)
+{
+    struct foldwig_path_result got, wanted;
+    uint64_t rule = build_quadratic_rule();
+    lend(BUILD_QUADRATIC);
+    got = foldwig_build_quadratic_entries(ARRAY(PATH), ARRAY(MADE));
+    wanted = foldwig_build_quadratic(BYTES(PATH, 0), BYTES(PATH, 1), BYTES(MADE, 0), BYTES(MADE, 1));
+    struct answers a = {0,
+                        3,
+                        {0, 0, 0},
+                        {got.refusal, got.entries, got.tests, 0},
+                        {wanted.refusal, wanted.entries, wanted.tests, 0}};
+    check(BUILD_QUADRATIC, &a, rule, held[PATH].len);
+    if (got.refusal == 0 && rule == 0)
+        check_slopes(got.entries);
+    return got;
+}
+
+// Makes a build and then a quadratic one with the array of the path as the build got it. The second one has to leave there what
+// the first one left, and to answer what that answered, but 0 for the tests.
+static struct foldwig_path_result compare_both_builds(void)
+{
+    static uint64_t before[2 * MOST], after[2 * MOST];
+    struct foldwig_path_result linear, quadratic;
+    size_t len = held[MADE].len * 2 * sizeof before[0];
+    memcpy(before, held[MADE].at, len);
+    linear = compare_build();
+    memcpy(after, held[MADE].at, len);
+    memcpy(held[MADE].at, before, len);
+    quadratic = compare_build_quadratic();
+    expect(quadratic.refusal == linear.refusal && quadratic.entries == linear.entries,
+           "a quadratic build does not answer what a build answers");
+    expect(quadratic.tests == (FAULT == 21 ? linear.tests : 0), "a quadratic build answers tests");
+    expect(memcmp(held[MADE].at, after, len) == 0, "a quadratic build leaves another path than a build");
+    if (linear.refusal == 0)
+        passed_over[BUILD_QUADRATIC] += held[PATH].len - (linear.tests + 1 + linear.entries) / 2;
+    return linear;
+}
+
+// The same, but most of the long lists that are accepted are left to the build alone: the other one may take millions of steps.
+static struct foldwig_path_result compare_builds(void)
+{
+    int alone = held[PATH].len > LONG && build_rule() == 0 && !one_in(RARE);
+    return alone ? compare_build() : compare_both_builds();
 }
 
 static struct foldwig_select_result compare_select(uint64_t n, uint64_t p, uint64_t q)
@@ -611,7 +707,7 @@ static void random_builds(int turns)
             spoil(below(n), (int)below(DAMAGES));
         put_models(n, n);
         fresh(MADE, about(n));
-        compare_build();
+        compare_builds();
     }
 }
 
@@ -671,7 +767,7 @@ static uint64_t begin_history(size_t places, size_t *accepted, uint64_t *tests)
         if (n > 0 && one_in(6))
             spoil(below(n), (int)below(DAMAGES));
         put_models(n, n);
-        r = compare_build();
+        r = compare_builds();
     }
     held[PATH] = held[MADE];
     *accepted = r.refusal == 0 && r.entries > 0 ? n : 0;
@@ -693,8 +789,8 @@ static struct foldwig_path_result go_on(uint64_t entries, struct foldwig_entry *
     return compare_append(entries, m->size, m->loss);
 }
 
-// How many of the accepted models in the list were not passed over: those with a smaller loss than the model before.
-static size_t not_passed_over(size_t accepted)
+// How many of the accepted models in the list were tried and not passed over: those with a smaller loss than the model before.
+static size_t tried(size_t accepted)
 {
     size_t count = 0;
     for (size_t i = 0; i < accepted; i++)
@@ -710,11 +806,11 @@ static void check_history(uint64_t entries, size_t accepted, uint64_t tests)
     memcpy(path, held[PATH].at, sizeof path);
     put_models(accepted, accepted);
     fresh(MADE, accepted);
-    r = compare_build();
+    r = compare_builds();
     expect(r.refusal == (accepted == 0), "a build of the models that a history accepted is refused");
     expect(r.entries == entries && r.tests == tests, "a build of the models of a history answers something else");
     expect(memcmp(held[MADE].at, path, (size_t)entries * 2 * sizeof path[0]) == 0, "a build makes another path than a history");
-    expect(accepted == 0 || tests == 2 * not_passed_over(accepted) - 1 - entries, "the tests of a history are not 2N - 1 - M");
+    expect(accepted == 0 || tests == 2 * tried(accepted) - 1 - entries, "the tests of a history are not 2N - 1 - M");
     memcpy(held[PATH].at, path, sizeof path);
     held[PATH].len = (size_t)entries;
 }
@@ -815,7 +911,7 @@ static void meet_builds(void)
         for (size_t n = 0; n <= 4; n++) {
             put_models(n, n);
             fresh(MADE, (size_t)(i / DAMAGES / DAMAGES));
-            compare_build();
+            compare_builds();
         }
     }
     for (int damage = 0; damage < DAMAGES; damage++)
@@ -824,7 +920,7 @@ static void meet_builds(void)
             spoil(2, damage);
             put_models(4097, 4097);
             fresh(MADE, room);
-            expect(compare_build().refusal == 2, "a build of 4,097 models");
+            expect(compare_builds().refusal == 2, "a build of 4,097 models");
         }
 }
 
@@ -876,23 +972,23 @@ static void wide_in_build(size_t n, size_t at)
     list[at].size = wide(list[at].size);
     put_models(n, n);
     fresh(MADE, about(n));
-    expect(compare_build().refusal == 5, "a build with a wide size");
+    expect(compare_builds().refusal == 5, "a build with a wide size");
     if (at + 1 < n)
         list[at + 1] = one_in(2) ? entry(0, 0) : list[at];
     put_models(n, n);
-    expect(compare_build().refusal == 5, "a build with a wide size before another bad model");
+    expect(compare_builds().refusal == 5, "a build with a wide size before another bad model");
     if (at < 2)
         return;
     kept = list[at - 1];
     list[at - 1].size = list[at - 2].size;
     put_models(n, n);
-    expect(compare_build().refusal == 6, "a build with a wide size behind a size that is not larger");
+    expect(compare_builds().refusal == 6, "a build with a wide size behind a size that is not larger");
     list[at - 1] = entry(kept.size, list[at - 2].loss);
     put_models(n, n);
-    expect(compare_build().refusal == 5, "a build with a wide size behind a model that is passed over");
+    expect(compare_builds().refusal == 5, "a build with a wide size behind a model that is passed over");
     list[at - 1] = entry(kept.size, list[at - 2].loss + 1);
     put_models(n, n);
-    expect(compare_build().refusal == 7, "a build with a wide size behind a loss that is larger");
+    expect(compare_builds().refusal == 7, "a build with a wide size behind a loss that is larger");
 }
 
 static void wide_sizes(int turns)
@@ -922,7 +1018,7 @@ static void builds_at_limit(enum shape shape)
                 flatten(n);
             put_models(n, n);
             fresh(MADE, room);
-            r = compare_build();
+            r = compare_builds();
             expect(r.refusal == (n > 4096 ? 2 : room < n ? 9 : 0), "a build of about 4,096 models");
             held[PATH] = held[MADE];
             compare_select(r.entries, 0, 1);
@@ -995,7 +1091,7 @@ static struct foldwig_path_result build_list(size_t n, size_t places)
 {
     put_models(n, n);
     fresh(MADE, places);
-    return compare_build();
+    return compare_both_builds();
 }
 
 // Builds of models of which some are passed over, what they answer and the paths that they leave.
@@ -1060,6 +1156,55 @@ static void long_flat_figures(void)
     expect(answers(build_list(4097, 4097), 2, 0, 0), "4,097 equal losses");
 }
 
+// Models that a quadratic build goes through from the largest size down, and the path that it finds. The comments have the
+// breakpoints to each present entry, from the smallest size on.
+static const struct {
+    const char *what;
+    size_t n;
+    struct foldwig_entry given[6];
+    size_t entries;
+    struct foldwig_entry path[4];
+} quadratic_builds[] = {
+    {"one model", 1, {{7, 9}}, 1, {{7, 9}}},
+    // From size 5 only 7 / 3.
+    {"two models", 2, {{2, 9}, {5, 2}}, 2, {{2, 9}, {5, 2}}},
+    // From size 5: 4 / 4, 3 / 3, 2 / 2 and 1 / 1.
+    {"all on one line", 5, {{1, 4}, {2, 3}, {3, 2}, {4, 1}, {5, 0}}, 2, {{1, 4}, {5, 0}}},
+    // From size 6: 14 / 5, 6 / 4, 4 / 3, 2 / 2 and 1 / 1. From size 4: 12 / 3, 4 / 2 and 2 / 1. From size 2: 8 / 1.
+    {"two lines", 6, {{1, 14}, {2, 6}, {3, 4}, {4, 2}, {5, 1}, {6, 0}}, 4, {{1, 14}, {2, 6}, {4, 2}, {6, 0}}},
+    // Size 4 with the loss 4 and size 9 are passed over. From size 5: 7 / 4, 4 / 3 and 2 / 1. From size 2: 3 / 1.
+    {"the largest size passed over", 6, {{1, 7}, {2, 4}, {4, 4}, {4, 2}, {5, 0}, {9, 0}}, 3, {{1, 7}, {2, 4}, {5, 0}}},
+};
+
+static void quadratic_figures(void)
+{
+    for (size_t i = 0; i < sizeof quadratic_builds / sizeof quadratic_builds[0]; i++) {
+        size_t n = quadratic_builds[i].n, entries = quadratic_builds[i].entries;
+        struct foldwig_path_result r;
+        memcpy(list, quadratic_builds[i].given, n * sizeof list[0]);
+        r = build_list(n, n + 1);
+        expect(r.refusal == 0 && r.entries == entries, quadratic_builds[i].what);
+        expect(holds_path(MADE, quadratic_builds[i].path, entries, n), quadratic_builds[i].what);
+    }
+}
+
+// 4,096 models that a quadratic build goes through in the most steps, and in the fewest: if the loss of size k is the square of
+// 4,097 - k it takes all of them, and if it is 4,097 - k they are on a line, and it goes from the last to the first at once.
+static void long_quadratic_figures(void)
+{
+    for (int squares = 0; squares < 2; squares++) {
+        struct foldwig_entry ends[2];
+        for (uint64_t i = 0; i < 4097; i++)
+            list[i] = entry(i + 1, squares ? (4096 - i) * (4096 - i) : 4096 - i);
+        ends[0] = list[0];
+        ends[1] = list[4095];
+        expect(build_list(4096, 4097).entries == (squares ? 4096 : 2), "the entries of 4,096 models");
+        expect(holds_path(MADE, squares ? list : ends, squares ? 4096 : 2, 4096), "the path of 4,096 models");
+        expect(answers(build_list(4096, 4095), 9, 0, 0), "4,096 models without a place for each");
+        expect(answers(build_list(4097, 4097), 2, 0, 0), "4,097 models");
+    }
+}
+
 // Appends to a path that fills its array, and then to a full path of 4,096 entries whose breakpoints fall, from 8,191 down to 3.
 static void full_append_figures(void)
 {
@@ -1103,6 +1248,7 @@ static void flat_figures(void)
 {
     flat_build_figures();
     long_flat_figures();
+    quadratic_figures();
     full_append_figures();
     flat_history_figure();
 }
@@ -1122,7 +1268,7 @@ static void build_at_limit(void)
     make_models(4096, TIED);
     put_models(4096, 4096);
     fresh(MADE, 4096);
-    expect(compare_build().refusal == 0, "a build of 4,096 models on a small stack");
+    expect(compare_both_builds().refusal == 0, "a build of 4,096 models on a small stack");
 }
 
 static void select_at_limit(void)
@@ -1162,6 +1308,10 @@ static void wide_lengths(void)
     expect(foldwig_build_entries(e, len, two, 2).refusal == 2 && two[0].size == 0, "a build of 2^32 + 1 models");
     two[0] = entry(5, 9);
     expect(foldwig_build_entries(two, 1, e, len).entries == 1 && e[0].size == 5 && e[1].size == 600, "a build to 64 GB");
+    expect(foldwig_build_quadratic_entries(e, len, two, 2).refusal == 2 && two[0].size == 5, "a quadratic build of as many");
+    two[0] = entry(6, 9);
+    expect(foldwig_build_quadratic_entries(two, 1, e, len).entries == 1 && e[0].size == 6 && e[1].size == 600,
+           "a quadratic build to 64 GB");
     munmap(e, len * sizeof *e);
 }
 
@@ -1171,7 +1321,7 @@ static void wide_lengths(void)
 static int unseen(enum call call)
 {
     int count = 0;
-    if ((call == APPEND || call == BUILD) && passed_over[call] == 0) {
+    if (call <= BUILD_QUADRATIC && passed_over[call] == 0) {
         printf("not seen: %s that passes a model over\n", names[call]);
         count++;
     }
@@ -1195,12 +1345,13 @@ static int summary(void)
     unsigned long all = 0;
     int missing = 0;
     for (int call = 0; call < CALLS; call++) {
-        printf("%-12s %7lu calls, %7lu accepted\n", names[call], calls[call], refusals[call][0]);
+        printf("%-15s %7lu calls, %7lu accepted\n", names[call], calls[call], refusals[call][0]);
         all += calls[call];
         if (mismatches == 0)
             missing += unseen((enum call)call);
     }
-    printf("models passed over: %lu by appends, %lu by builds\n", passed_over[APPEND], passed_over[BUILD]);
+    printf("models passed over: %lu by appends, %lu by builds, %lu by quadratic builds\n", passed_over[APPEND],
+           passed_over[BUILD], passed_over[BUILD_QUADRATIC]);
     printf("calls compared: %lu, mismatches: %lu\n", all, mismatches);
     return mismatches > 0 || missing > 0;
 }
@@ -1223,6 +1374,7 @@ int main(int argc, char **argv)
         builds_at_limit((enum shape)shape);
         paths_at_limit((enum shape)shape);
     }
+    long_quadratic_figures();
     fill_up();
     on_small_stack(append_at_limit);
     on_small_stack(build_at_limit);

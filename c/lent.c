@@ -5,11 +5,14 @@
 #include <string.h>
 #include <sys/mman.h>
 
-enum { MOST_MISMATCHES = 10 };
+// After so many mismatches the test ends. c/check compiles this file once more with 1, for the runs with a planted fault.
+#ifndef MOST_MISMATCHES
+#define MOST_MISMATCHES 10
+#endif
 
 // How many byte strings each call is lent, and how many of these, the first ones, it only reads.
-static const int lent_to[CALLS] = {2, 4, 2, 4, 4, 6, 4, 4};
-static const int only_read[CALLS] = {0, 2, 2, 2, 1, 1, 1, 2};
+static const int lent_to[CALLS] = {2, 4, 4, 2, 4, 4, 6, 4, 4};
+static const int only_read[CALLS] = {0, 2, 2, 2, 2, 1, 1, 1, 2};
 
 // A buffer, as the call gets it and as the reference does.
 struct lent {
@@ -23,8 +26,8 @@ static unsigned long refusals[CALLS][FOLDWIG_REFUSALS];             // how often
 static unsigned long met[CALLS][CAUSES][CAUSES];                    // how often two causes held at once
 static unsigned long nulls[CALLS][BUFFERS];                         // how often a byte string was lent as null
 static unsigned long passed_over[CALLS];                            // how many models were passed over
-static const char *const names[CALLS] = {"append",      "build", "select", "breakpoints",
-                                         "signal_path", "split", "extend", "split_from"};
+static const char *const names[CALLS] = {"append",      "build", "build_quadratic", "select",    "breakpoints",
+                                         "signal_path", "split", "extend",          "split_from"};
 
 // ---- Buffers
 
@@ -222,21 +225,63 @@ struct foldwig_path_result compare_append(uint64_t entries, uint64_t size, uint6
     return wanted;
 }
 
-struct foldwig_path_result compare_build(void)
+// Makes a build, compares it, and answers what it gave itself.
+static struct foldwig_path_result compare_build(struct foldwig_path_result *wanted)
 {
-    struct foldwig_path_result got, wanted;
+    struct foldwig_path_result got;
     unsigned causes;
     lend_all(BUILD);
     got = foldwig_build(LENT(0), LENT(1), LENT(2), LENT(3));
-    wanted = reference_build(buffer(0), buffer(1), buffer(2), buffer(3), &causes);
+    *wanted = reference_build(buffer(0), buffer(1), buffer(2), buffer(3), &causes);
+    struct answers a = {0,
+                        3,
+                        {0, 0, 0},
+                        {got.refusal, got.entries, got.tests, 0},
+                        {wanted->refusal, wanted->entries, wanted->tests, 0}};
+    check(BUILD, &a, causes);
+    return got;
+}
+
+static struct foldwig_path_result compare_build_quadratic(void)
+{
+    struct foldwig_path_result got, wanted;
+    unsigned causes;
+    lend_all(BUILD_QUADRATIC);
+    got = foldwig_build_quadratic(LENT(0), LENT(1), LENT(2), LENT(3));
+    wanted = reference_build_quadratic(buffer(0), buffer(1), buffer(2), buffer(3), &causes);
     struct answers a = {0,
                         3,
                         {0, 0, 0},
                         {got.refusal, got.entries, got.tests, 0},
                         {wanted.refusal, wanted.entries, wanted.tests, 0}};
-    check(BUILD, &a, causes);
-    if (wanted.refusal == 0)
-        passed_over[BUILD] += lent[0].span.len / 2 - (wanted.tests + 1 + wanted.entries) / 2;
+    check(BUILD_QUADRATIC, &a, causes);
+    return got;
+}
+
+// The quadratic build gets the path's buffers as the build got them. It has to leave in them what the build left, and to answer
+// what the build answered, but 0 for the tests.
+struct foldwig_path_result compare_builds(void)
+{
+    static uint8_t before[2][MOST_BYTES], after[2][MOST_BYTES];
+    struct foldwig_path_result wanted, linear, quadratic;
+    for (int i = 0; i < 2; i++)
+        memcpy(before[i], lent[2 + i].copy, lent[2 + i].span.len);
+    linear = compare_build(&wanted);
+    for (int i = 0; i < 2; i++) {
+        memcpy(after[i], lent[2 + i].span.at, lent[2 + i].span.len);
+        memcpy(lent[2 + i].copy, before[i], lent[2 + i].span.len);
+    }
+    quadratic = compare_build_quadratic();
+    expect(quadratic.refusal == linear.refusal && quadratic.entries == linear.entries && quadratic.tests == 0,
+           "a quadratic build does not answer what a build answers, with 0 for the tests");
+    for (int i = 0; i < 2; i++)
+        expect(memcmp(lent[2 + i].span.at, after[i], lent[2 + i].span.len) == 0,
+               "a quadratic build leaves other bytes in the path's buffers than a build");
+    if (wanted.refusal == 0) {
+        unsigned long passed = lent[0].span.len / 2 - (wanted.tests + 1 + wanted.entries) / 2;
+        passed_over[BUILD] += passed;
+        passed_over[BUILD_QUADRATIC] += passed;
+    }
     return wanted;
 }
 
@@ -334,6 +379,7 @@ struct foldwig_split_from_result compare_split_from(uint64_t max_segments, uint6
 static const int orders[CALLS][9] = {
     {11, 8, 5, 6, 7, 9, 0},
     {11, 1, 2, 5, 6, 7, 9, 0},
+    {11, 1, 2, 5, 6, 7, 9, 0},
     {11, 8, 10, 4, 0},
     {11, 8, 9, 0},
     {11, 1, 2, 3, 9, 0},
@@ -348,7 +394,7 @@ static int can_meet(enum call call, int a, int b)
 {
     if (a == 1 && b == 2)
         return 0;
-    if (call == BUILD && a == 1)
+    if ((call == BUILD || call == BUILD_QUADRATIC) && a == 1)
         return b == 11;
     if (call == SPLIT_FROM && a == 1)
         return b != 9 && b != 12;
@@ -359,7 +405,7 @@ static int can_meet(enum call call, int a, int b)
 static int unseen(enum call call)
 {
     int count = 0;
-    if ((call == APPEND || call == BUILD) && passed_over[call] == 0) {
+    if (call <= BUILD_QUADRATIC && passed_over[call] == 0) {
         printf("not seen: %s that passes a model over\n", names[call]);
         count++;
     }
@@ -396,12 +442,13 @@ int summary(void)
     unsigned long all = 0;
     int missing = 0;
     for (int call = 0; call < CALLS; call++) {
-        printf("%-12s %7lu calls, %7lu accepted, %2d pairs of causes\n", names[call], calls[call], refusals[call][0],
+        printf("%-15s %7lu calls, %7lu accepted, %2d pairs of causes\n", names[call], calls[call], refusals[call][0],
                pairs_met((enum call)call));
         all += calls[call];
         missing += unseen((enum call)call);
     }
-    printf("models passed over: %lu by appends, %lu by builds\n", passed_over[APPEND], passed_over[BUILD]);
+    printf("models passed over: %lu by appends, %lu by builds, %lu by quadratic builds\n", passed_over[APPEND],
+           passed_over[BUILD], passed_over[BUILD_QUADRATIC]);
     printf("calls compared: %lu, mismatches: %lu\n", all, mismatches);
     return mismatches > 0 || missing > 0;
 }

@@ -12,8 +12,8 @@
 
 enum { BUFFERS = 6, MOST_BYTES = 3 << 15 };
 
-// The eight calls, as the tallies number them.
-enum call { APPEND, BUILD, SELECT, BREAKPOINTS, SIGNAL_PATH, SPLIT, EXTEND, SPLIT_FROM, CALLS };
+// The nine calls, as the tallies number them.
+enum call { APPEND, BUILD, BUILD_QUADRATIC, SELECT, BREAKPOINTS, SIGNAL_PATH, SPLIT, EXTEND, SPLIT_FROM, CALLS };
 
 // Maps the buffers. A test has to do this once.
 void map_buffers(void);
@@ -36,9 +36,10 @@ enum drawing { FEW, ALL, EXTREMES, STEPS, DRIFT, DRAWINGS };
 // Gives a buffer n samples.
 void draw_samples(int which, size_t n, enum drawing drawing);
 
-// Each makes one call with the buffers and compares it.
+// Each makes one call with the buffers and compares it. The builds are two calls on the same bytes, a build and a quadratic one,
+// which are compared with each other besides; the answer is that of the build.
 struct foldwig_path_result compare_append(uint64_t entries, uint64_t size, uint64_t loss);
-struct foldwig_path_result compare_build(void);
+struct foldwig_path_result compare_builds(void);
 struct foldwig_select_result compare_select(uint64_t entries, uint64_t p, uint64_t q);
 struct foldwig_breakpoints_result compare_breakpoints(uint64_t entries);
 struct foldwig_signal_path_result compare_signal_path(uint64_t max_segments);

@@ -329,6 +329,21 @@ static unsigned first_bad_causes(struct bytes sizes, struct bytes losses, size_t
     return all;
 }
 
+// The causes of a build of n models other than that of 9.
+static unsigned build_causes(struct bytes sizes, struct bytes losses, size_t n, struct bytes path_sizes, struct bytes path_losses)
+{
+    unsigned causes = cause_if(11, odd_length(sizes, 2) || odd_length(losses, 8));
+    causes |= cause_if(11, odd_length(path_sizes, 2) || odd_length(path_losses, 8));
+    return causes | cause_if(1, n == 0) | cause_if(2, n > MAX_MODELS) | first_bad_causes(sizes, losses, n);
+}
+
+// Reads the models of a build.
+static void read_models(struct bytes sizes, struct bytes losses, size_t n)
+{
+    for (size_t i = 0; i < n; i++)
+        models[i] = model_at(sizes, losses, i);
+}
+
 struct foldwig_path_result reference_build(struct bytes sizes, struct bytes losses, struct bytes path_sizes,
                                            struct bytes path_losses, unsigned *causes)
 {
@@ -336,15 +351,11 @@ struct foldwig_path_result reference_build(struct bytes sizes, struct bytes loss
     struct foldwig_path_result r = {0, 0, 0};
     size_t n = FAULT == 17 ? places(sizes, losses) : larger(sizes.len / 2, losses.len / 8);
     size_t room = places(path_sizes, path_losses), tried;
-    *causes = cause_if(11, odd_length(sizes, 2) || odd_length(losses, 8));
-    *causes |= cause_if(11, odd_length(path_sizes, 2) || odd_length(path_losses, 8));
-    *causes |= cause_if(1, n == 0) | cause_if(2, n > MAX_MODELS);
-    *causes |= first_bad_causes(sizes, losses, n) | cause_if(9, FAULT != 8 && FAULT != 30 && room < n);
+    *causes = build_causes(sizes, losses, n, path_sizes, path_losses) | cause_if(9, FAULT != 8 && FAULT != 30 && room < n);
     r.refusal = first_of(*causes, order);
     if (r.refusal != 0)
         return r;
-    for (size_t i = 0; i < n; i++)
-        models[i] = model_at(sizes, losses, i);
+    read_models(sizes, losses, n);
     r.entries = winners(n);
     tried = not_passed_over(models, n);
     if ((FAULT == 8 && room < r.entries) || (FAULT == 30 && room < tried)) {
@@ -358,6 +369,110 @@ struct foldwig_path_result reference_build(struct bytes sizes, struct bytes loss
     if (FAULT == 26)
         r.tests += n - tried;
     put_path(path_sizes, path_losses, r.entries, smaller(FAULT == 31 ? tried : n, room));
+    return r;
+}
+
+// ---- The quadratic build
+
+static struct model kept[MAX_MODELS];               // the models that are not passed over: their sizes rise, and their losses fall
+static struct fraction to_larger[MAX_MODELS];       // the greatest slope from each of them to a larger one
+static struct fraction from_smaller[MAX_MODELS];    // the least slope to each of them from a smaller one
+
+// Keeps those of n models that are not passed over, and answers their number.
+static size_t keep(const struct model *given, size_t n)
+{
+    size_t count = 0;
+    for (size_t i = 0; i < n; i++)
+        if (count == 0 || given[i].loss < kept[count - 1].loss || FAULT == 60)
+            kept[count++] = given[i];
+    return count;
+}
+
+// Takes the slope between each two of n kept models once, for both of them. A slope is the difference of the losses over that of
+// the sizes. With no larger model the greatest slope is 0, and with no smaller one the least slope is above every number.
+static void take_slopes(size_t n)
+{
+    for (size_t i = 0; i < n; i++) {
+        struct fraction zero = {0, 1}, above_all = {1, 0};
+        to_larger[i] = zero;
+        from_smaller[i] = above_all;
+    }
+    for (size_t small = 0; small < n; small++)
+        for (size_t large = small + 1; large < n; large++) {
+            struct fraction slope = between(kept[small], kept[large]);
+            if (less(to_larger[small], slope))
+                to_larger[small] = slope;
+            if (less(slope, from_smaller[large]))
+                from_smaller[large] = slope;
+        }
+}
+
+// The entry below the present one in a walk with a planted fault: a smaller size, by the breakpoint of the two.
+static size_t next_wrongly(size_t present)
+{
+    struct fraction best = {0, 1};
+    size_t next = present;
+    for (size_t i = 0; i < present; i++) {
+        struct fraction f = between(kept[i], kept[present]);
+        if (kept[i].size >= kept[present].size)
+            continue;
+        if (next == present || (FAULT == 58 ? less(best, f) : FAULT == 57 ? !less(best, f) : less(f, best))) {
+            best = f;
+            next = i;
+        }
+    }
+    return next;
+}
+
+// The planted faults 57 to 61: the older method, from the largest of n kept sizes down to the smallest, with one thing wrong.
+static size_t walk_wrongly(size_t n, struct model *made)
+{
+    static size_t walked[MAX_MODELS];
+    size_t entries = 0, present = FAULT == 59 && n > 1 ? n - 2 : n - 1;
+    for (; present > 0; present = next_wrongly(present))
+        walked[entries++] = present;
+    if (FAULT != 61 || entries == 0)
+        walked[entries++] = 0;
+    for (size_t i = 0; i < entries; i++)
+        made[i] = kept[walked[entries - 1 - i]];
+    return entries;
+}
+
+size_t path_by_slopes(const struct model *given, size_t n, struct model *made)
+{
+    size_t count = keep(given, n), entries = 0;
+    if (FAULT >= 57 && FAULT <= 61)
+        return walk_wrongly(count, made);
+    take_slopes(count);
+    for (size_t i = 0; i < count; i++)
+        if (less(to_larger[i], from_smaller[i]))
+            made[entries++] = kept[i];
+    return entries;
+}
+
+struct foldwig_path_result reference_build_quadratic(struct bytes sizes, struct bytes losses, struct bytes path_sizes,
+                                                     struct bytes path_losses, unsigned *causes)
+{
+    static const int right[] = {1, 2, 5, 6, 7, 9, 0};
+    static const int room_first[] = {1, 2, 9, 5, 6, 7, 0}, models_first[] = {1, 5, 6, 7, 2, 9, 0};
+    struct foldwig_path_result r = {0, 0, 0};
+    size_t n = larger(sizes.len / 2, losses.len / 8), room = places(path_sizes, path_losses), end = n;
+    *causes = build_causes(sizes, losses, n, path_sizes, path_losses) | cause_if(9, FAULT != 67 && room < n);
+    r.refusal = first_of(*causes, FAULT == 65 ? room_first : FAULT == 66 ? models_first : right);
+    if (r.refusal != 0)
+        return r;
+    read_models(sizes, losses, n);
+    r.entries = path_by_slopes(models, n, path);
+    if (FAULT == 67 && room < r.entries) {
+        r.refusal = 9;
+        r.entries = 0;
+        return r;
+    }
+    if (FAULT == 62)
+        r.tests = 2 * not_passed_over(models, n) - 1 - r.entries;
+    if (FAULT == 63 || FAULT == 64)
+        end = FAULT == 63 ? n + 1 : r.entries;
+    put_path(path_sizes, path_losses, r.entries, smaller(end, room));
     return r;
 }
 

@@ -1,6 +1,7 @@
-// A reference for the eight calls, in plain C, written from docs/RULES.md. It finds a path by asking of each model whether it can
-// be the cheapest, a short signal's segmentations by trying all of them, and a long one's by a plain dynamic programme. On a table
-// it tries every start of a last segment and adds up the squares of each segment anew.
+// A reference for the nine calls, in plain C, written from docs/RULES.md. It finds a path by asking of each model whether it can
+// be the cheapest, the path of a quadratic build by the slopes between each two models, a short signal's segmentations by trying
+// all of them, and a long one's by a plain dynamic programme. On a table it tries every start of a last segment and adds up the
+// squares of each segment anew.
 //
 // The macro FAULT plants one fault in the reference, which a test must then notice:
 //
@@ -60,6 +61,17 @@
 //   54  an extension's largest size does not count the new sample
 //   55  of a table only as many rows as the limit says are looked at
 //   56  no new segment consists of the new sample alone, if the size allows it
+//   57  a quadratic build takes the largest size at a tie of breakpoints
+//   58  a quadratic build takes the largest breakpoint in place of the smallest
+//   59  a quadratic build begins at the second-largest size
+//   60  a quadratic build takes in models that were passed over
+//   61  a quadratic build ends before the smallest size
+//   62  a quadratic build answers the tests of a build
+//   63  the zeros behind a quadratic build's path go one place too far
+//   64  a quadratic build leaves the places behind its path as they are
+//   65  a quadratic build finds a short buffer before a bad model
+//   66  a quadratic build finds too many models after a bad one
+//   67  a quadratic build needs room for its path only
 #ifndef REFERENCE_H
 #define REFERENCE_H
 
@@ -100,12 +112,19 @@ size_t cheapest(const struct model *models, size_t n, uint64_t p, uint64_t q);
 // How many of n accepted models, in the order in which they came, were not passed over.
 size_t not_passed_over(const struct model *models, size_t n);
 
+// Makes the path of n models, those passed over included, that a build accepts, and answers its number of entries. It is found by
+// neither method of a build: of the models that are not passed over those are entries from which every slope to a larger model is
+// less than every slope to them from a smaller one.
+size_t path_by_slopes(const struct model *given, size_t n, struct model *made);
+
 // Each of these does what the call of the same name does. Bit n of *causes is set if the cause of refusal n holds, whether or not
 // it is the first one.
 struct foldwig_path_result reference_append(struct bytes sizes, struct bytes losses, uint64_t entries, uint64_t size,
                                             uint64_t loss, unsigned *causes);
 struct foldwig_path_result reference_build(struct bytes sizes, struct bytes losses, struct bytes path_sizes,
                                            struct bytes path_losses, unsigned *causes);
+struct foldwig_path_result reference_build_quadratic(struct bytes sizes, struct bytes losses, struct bytes path_sizes,
+                                                     struct bytes path_losses, unsigned *causes);
 struct foldwig_select_result reference_select(struct bytes sizes, struct bytes losses, uint64_t entries, uint64_t p, uint64_t q,
                                               unsigned *causes);
 struct foldwig_breakpoints_result reference_breakpoints(struct bytes sizes, struct bytes losses, uint64_t entries,

@@ -9,7 +9,7 @@
 #include <string.h>
 #include <sys/mman.h>
 
-enum { STACK = 1 << 20, MARGIN = 512, PAINT = 0x5d, MODELS = 4096, CALLS = 12 };
+enum { STACK = 1 << 20, MARGIN = 512, PAINT = 0x5d, MODELS = 4096, CALLS = 14 };
 
 // The inputs, all of the largest lengths: models that all stay on the path and a signal that goes up and down; models on a line,
 // which drop each other, and a signal of one level; a path with a bad last entry and a limit that is refused. Each column of the
@@ -66,6 +66,13 @@ static uint64_t call_build(void)
         .refusal;
 }
 
+static uint64_t call_build_quadratic(void)
+{
+    return foldwig_build_quadratic(sizes, sizeof sizes, losses, sizeof losses, path_sizes, sizeof path_sizes, path_losses,
+                                   sizeof path_losses)
+        .refusal;
+}
+
 static uint64_t call_select(void)
 {
     return foldwig_select(sizes, sizeof sizes, losses, sizeof losses, MODELS, 0, 1).refusal;
@@ -86,6 +93,11 @@ static uint64_t call_append_entries(void)
 static uint64_t call_build_entries(void)
 {
     return foldwig_build_entries(models, MODELS, entries, MODELS).refusal;
+}
+
+static uint64_t call_build_quadratic_entries(void)
+{
+    return foldwig_build_quadratic_entries(models, MODELS, entries, MODELS).refusal;
 }
 
 static uint64_t call_select_entries(void)
@@ -131,10 +143,12 @@ static const struct {
 } measured[CALLS] = {
     {"foldwig_append", call_append, FOLDWIG_APPEND_STACK},
     {"foldwig_build", call_build, FOLDWIG_BUILD_STACK},
+    {"foldwig_build_quadratic", call_build_quadratic, FOLDWIG_BUILD_QUADRATIC_STACK},
     {"foldwig_select", call_select, FOLDWIG_SELECT_STACK},
     {"foldwig_breakpoints", call_breakpoints, FOLDWIG_BREAKPOINTS_STACK},
     {"foldwig_append_entries", call_append_entries, FOLDWIG_APPEND_ENTRIES_STACK},
     {"foldwig_build_entries", call_build_entries, FOLDWIG_BUILD_ENTRIES_STACK},
+    {"foldwig_build_quadratic_entries", call_build_quadratic_entries, FOLDWIG_BUILD_QUADRATIC_ENTRIES_STACK},
     {"foldwig_select_entries", call_select_entries, FOLDWIG_SELECT_ENTRIES_STACK},
     {"foldwig_breakpoints_entries", call_breakpoints_entries, FOLDWIG_BREAKPOINTS_ENTRIES_STACK},
     {"foldwig_signal_path", call_signal_path, FOLDWIG_SIGNAL_PATH_STACK},
@@ -203,7 +217,7 @@ int main(void)
         return 2;
     for (int i = 0; i < CALLS; i++) {
         size_t bytes = most_stack(measured[i].call, &wrong);
-        printf("%-27s %7zu bytes of stack%s, the header says %zu\n", measured[i].name, bytes, bytes <= MARGIN ? " at most" : "",
+        printf("%-31s %7zu bytes of stack%s, the header says %zu\n", measured[i].name, bytes, bytes <= MARGIN ? " at most" : "",
                measured[i].said);
         wrong += bytes > measured[i].said;
     }

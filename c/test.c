@@ -1,4 +1,4 @@
-// Compares the eight calls with the reference: on worked figures, on random and tied inputs, on flat stretches, which are models
+// Compares the nine calls with the reference: on worked figures, on random and tied inputs, on flat stretches, which are models
 // with equal losses, at and past every limit, on damaged paths and tables, with lists of unequal and of odd length, and with every
 // pair of refusal causes that can meet. The tests of the calls with a table are in streams.c.
 // Usage: test [SEED]
@@ -142,7 +142,7 @@ static void random_builds(int turns)
         fresh(3, 8 * about(n));
         if (one_in(20))
             lengthen((int)below(4), 1 + 2 * below(4));
-        compare_build();
+        compare_builds();
     }
 }
 
@@ -203,7 +203,7 @@ static uint64_t begin_history(size_t places)
         if (n > 0 && one_in(6))
             spoil(below(n), (int)below(DAMAGES));
         put_models(0, n, n, n);
-        r = compare_build();
+        r = compare_builds();
         if (r.refusal == 0)
             accept_list(n);
         tests_made = r.tests;
@@ -432,7 +432,7 @@ static void meet_build_of(size_t n, int damage, int other_damage, int odd, int l
     fresh(2, 2 * (n - (room == 1 && n > 0)));
     fresh(3, 8 * (n - (room == 2 && n > 0)));
     make_odd(odd, 4);
-    compare_build();
+    compare_builds();
 }
 
 static void meet_build(void)
@@ -515,7 +515,7 @@ static void largest_numbers(void)
     put_models(0, 3, 3, 3);
     fresh(2, 6);
     fresh(3, 24);
-    expect(compare_build().entries == 3, "a build of the largest numbers");
+    expect(compare_builds().entries == 3, "a build of the largest numbers");
     compare_select(3, TOP, 65535);
     compare_select(3, TOP, 1);
     compare_select(3, 0, 65535);
@@ -557,7 +557,7 @@ static void path_figures(void)
         put_models(0, counts[i], counts[i], counts[i]);
         fresh(2, 2 * counts[i]);
         fresh(3, 8 * counts[i]);
-        r = compare_build();
+        r = compare_builds();
         expect(r.refusal == 0 && r.entries == entries[i] && r.tests == tests[i], "a worked figure of a build");
         expect(i != 0 || (bytes_are(2, "\1\0\3\0\0", 6) && bytes_are(3, "\7\0\0\0\0\0\0\0\0", 10)), "the bytes of a build");
     }
@@ -678,14 +678,14 @@ static void flat_build_figures(void)
         put_models(0, n, n, n);
         fresh(2, 2 * (n + 1));
         fresh(3, 8 * (n + 1));
-        r = compare_build();
+        r = compare_builds();
         expect(answers(r, flat_builds[i].refusal, flat_builds[i].entries, flat_builds[i].tests), flat_builds[i].what);
         if (r.refusal != 0)
             continue;
         expect(holds_path(2, flat_builds[i].path, flat_builds[i].entries, n), flat_builds[i].what);
         fresh(2, 2 * (n - 1));
         fresh(3, 8 * n);
-        expect(answers(compare_build(), 9, 0, 0), "a build without a place for a model that is passed over");
+        expect(answers(compare_builds(), 9, 0, 0), "a build without a place for a model that is passed over");
     }
 }
 
@@ -695,7 +695,7 @@ static struct foldwig_path_result build_list(size_t n, size_t less)
     put_models(0, n, n, n);
     fresh(2, 2 * (n - less));
     fresh(3, 8 * (n - less));
-    return compare_build();
+    return compare_builds();
 }
 
 // 48 models with falling losses, 4,000 with the last one's, and 48 with falling losses again, whose sizes go on from the first
@@ -726,6 +726,67 @@ static void long_flat_figures(void)
     expect(answers(build_list(4096, 0), 6, 0, 0), "4,095 equal losses, and the first model again");
     list[4095] = model(2, 4);
     expect(answers(build_list(4096, 0), 0, 2, 1) && holds_path(2, two, 2, 4096), "4,095 equal losses, and size 2 with less");
+}
+
+// Models that a quadratic build goes through from the largest size down, and the path that it finds. The comments have the
+// breakpoints to each present entry, from the smallest size on.
+static const struct {
+    const char *what;
+    size_t n;
+    struct model given[6];
+    size_t entries;
+    struct model path[4];
+} quadratic_builds[] = {
+    {"one model", 1, {{7, 9}}, 1, {{7, 9}}},
+    {"one model of the largest numbers", 1, {{65535, 17592186044416}}, 1, {{65535, 17592186044416}}},
+    // From size 5 only 7 / 3.
+    {"two models", 2, {{2, 9}, {5, 2}}, 2, {{2, 9}, {5, 2}}},
+    // From size 3: 7 / 2 and 4 / 1.
+    {"a size that is left out", 3, {{1, 7}, {2, 4}, {3, 0}}, 2, {{1, 7}, {3, 0}}},
+    // From size 3: 5 / 2 and 2 / 1. From size 2: 3 / 1.
+    {"a size that is taken", 3, {{1, 7}, {2, 4}, {3, 2}}, 3, {{1, 7}, {2, 4}, {3, 2}}},
+    // From size 5: 4 / 4, 3 / 3, 2 / 2 and 1 / 1.
+    {"all on one line", 5, {{1, 4}, {2, 3}, {3, 2}, {4, 1}, {5, 0}}, 2, {{1, 4}, {5, 0}}},
+    // From size 6: 14 / 5, 6 / 4, 4 / 3, 2 / 2 and 1 / 1. From size 4: 12 / 3, 4 / 2 and 2 / 1. From size 2: 8 / 1.
+    {"two lines", 6, {{1, 14}, {2, 6}, {3, 4}, {4, 2}, {5, 1}, {6, 0}}, 4, {{1, 14}, {2, 6}, {4, 2}, {6, 0}}},
+    // Size 4 with the loss 4 and size 9 are passed over. From size 5: 7 / 4, 4 / 3 and 2 / 1. From size 2: 3 / 1.
+    {"the largest size passed over", 6, {{1, 7}, {2, 4}, {4, 4}, {4, 2}, {5, 0}, {9, 0}}, 3, {{1, 7}, {2, 4}, {5, 0}}},
+    // From size 65,535: 2^44 / 65,534 and (2^44 - 1) / 65,533, with products just below 2^60.
+    {"the largest products", 3, {{1, 17592186044416}, {2, 17592186044415}, {65535, 0}}, 2, {{1, 17592186044416}, {65535, 0}}},
+};
+
+static void quadratic_figures(void)
+{
+    for (size_t i = 0; i < sizeof quadratic_builds / sizeof quadratic_builds[0]; i++) {
+        size_t n = quadratic_builds[i].n, entries = quadratic_builds[i].entries;
+        struct foldwig_path_result r;
+        memcpy(list, quadratic_builds[i].given, n * sizeof list[0]);
+        r = build_list(n, 0);
+        expect(r.refusal == 0 && r.entries == entries, quadratic_builds[i].what);
+        expect(holds_path(2, quadratic_builds[i].path, entries, n), quadratic_builds[i].what);
+    }
+}
+
+// 4,096 models that a quadratic build goes through in the most steps, and in the fewest. If the loss of size k is the square of
+// 4,097 - k, it takes all of them, one after the other. If the loss is 4,097 - k they are on a line, and if it is what the square
+// of k lacks to that of 4,097 they are above one: it goes from the last model to the first at once.
+static void long_quadratic_figures(void)
+{
+    for (int shape = 0; shape < 3; shape++) {
+        static struct model path[4097];
+        struct model ends[2];
+        for (uint64_t i = 0; i < 4097; i++) {
+            uint64_t k = i + 1, left = 4097 - k;
+            path[i] = model(k, shape == 0 ? left * left : shape == 1 ? left : 4097 * 4097 - k * k);
+        }
+        ends[0] = path[0];
+        ends[1] = path[4095];
+        memcpy(list, path, sizeof path);
+        expect(build_list(4096, 0).entries == (shape == 0 ? 4096 : 2), "the entries of 4,096 models");
+        expect(holds_path(2, shape == 0 ? path : ends, shape == 0 ? 4096 : 2, 4096), "the path of 4,096 models");
+        expect(answers(build_list(4096, 1), 9, 0, 0), "4,096 models without a place for each");
+        expect(answers(build_list(4097, 0), 2, 0, 0), "4,097 models");
+    }
 }
 
 // Appends to paths that fill their buffers, what they answer and the paths that they leave.
@@ -804,6 +865,7 @@ static void flat_figures(void)
 {
     flat_build_figures();
     long_flat_figures();
+    quadratic_figures();
     full_append_figures();
     flat_history_figure();
     full_path_figures();
@@ -820,7 +882,7 @@ static void build_at_limit(void)
         put_models(0, 4096, 4096, 4096);
         fresh(2, 2 * 4096);
         fresh(3, 8 * 4096);
-        expect(compare_build().refusal == 0, "a build of 4,096 models on a small stack");
+        expect(compare_builds().refusal == 0, "a build of 4,096 models on a small stack");
     }
 }
 
@@ -929,6 +991,11 @@ static void wide_lengths(void)
     expect(foldwig_build(a, len, b, len, small, 16, small + 16, 16).refusal == 2, "a build of 8 GB");
     expect(foldwig_build(NULL, 0, b, len, small, 16, small + 16, 16).refusal == 2, "a build of 8 GB without sizes");
     expect(foldwig_build(a, len + 1, b, len, small, 16, small + 16, 16).refusal == 11, "a build of 8 GB and a byte");
+    expect(foldwig_build_quadratic(a, len, b, len, small, 16, small + 16, 16).refusal == 2, "a quadratic build of 8 GB");
+    expect(foldwig_build_quadratic(NULL, 0, b, len, small, 16, small + 16, 16).refusal == 2,
+           "a quadratic build of 8 GB without sizes");
+    expect(foldwig_build_quadratic(a, len + 1, b, len, small, 16, small + 16, 16).refusal == 11,
+           "a quadratic build of 8 GB and a byte");
     expect(foldwig_signal_path(a, len, 4, small, 16, small + 16, 32, scratch, sizeof scratch).refusal == 2, "a signal of 8 GB");
     expect(foldwig_select(a, len, b, len, ((uint64_t)1 << 32) + 1, 1, 1).refusal == 8, "a path of 2^32 + 1 entries");
     expect(foldwig_select(a, len, b, len, 0, 1, 1).refusal == 10, "an empty path in 8 GB");
@@ -972,6 +1039,7 @@ int main(int argc, char **argv)
     long_signals(3000, 40);
     long_signals(150, 512);
     full_paths();
+    long_quadratic_figures();
     growing_signals(250, 40);
     growing_signals(5, 512);
     other_tables(20000);

@@ -2,7 +2,7 @@
  * Foldwig: segmentation of a signal at a penalty on the number of segments, and the path of the sizes that can be the cheapest.
  *
  * This header is for C99 and for C++, on x86-64 with the usual calling convention of Linux. docs/RULES.md states all that the
- * calls do; R1 to R59 below are its rules.
+ * calls do; R1 to R59 and R94 to R96 below are its rules.
  *
  * Numbers in memory. Lists stand in byte strings, low byte first, without any demand on alignment:
  *
@@ -72,10 +72,12 @@ extern "C" {
 /* The most stack that each call takes, in bytes, as measured by c/stack.c and rounded up. */
 #define FOLDWIG_APPEND_STACK 66000
 #define FOLDWIG_BUILD_STACK 132000
+#define FOLDWIG_BUILD_QUADRATIC_STACK 132000
 #define FOLDWIG_SELECT_STACK 66000
 #define FOLDWIG_BREAKPOINTS_STACK 132000
 #define FOLDWIG_APPEND_ENTRIES_STACK 66000
 #define FOLDWIG_BUILD_ENTRIES_STACK 132000
+#define FOLDWIG_BUILD_QUADRATIC_ENTRIES_STACK 132000
 #define FOLDWIG_SELECT_ENTRIES_STACK 66000
 #define FOLDWIG_BREAKPOINTS_ENTRIES_STACK 66000
 #define FOLDWIG_SIGNAL_PATH_STACK 17000
@@ -125,7 +127,7 @@ struct foldwig_entry {
     uint64_t loss;
 };
 
-/* The answer of an append and of a build. */
+/* The answer of an append and of a build. A build by the older method makes no tests and answers 0 for them. */
 struct foldwig_path_result {
     uint64_t refusal;
     uint64_t entries;   /* how many entries the path has now */
@@ -199,6 +201,21 @@ struct foldwig_path_result foldwig_build(const uint8_t *sizes, size_t sizes_len,
                                          size_t path_losses_len);
 
 /*
+ * Builds the path of a list of models as foldwig_build does, by an older method (R94 to R96). Of the models that are not passed over
+ * it begins at the one of the largest size. Among all smaller sizes it takes the one with the smallest breakpoint to the present
+ * entry, of several the smallest size, and goes on from there down to the smallest size. The models are given, the path is written
+ * and the refusals are found as foldwig_build has it, and on every list the outcome is the same but for the tests: this method
+ * makes none, and they are 0. It is there as a yardstick. Its time grows with the number of models times the number of entries,
+ * where that of foldwig_build grows with the number of models.
+ * Refusals, in order: 11, 1, 2, then at the first bad model 5, 6 or 7, then 9. The buffers need a place for each model, passed
+ * over or not.
+ * Stack: 132,000 bytes.
+ */
+struct foldwig_path_result foldwig_build_quadratic(const uint8_t *sizes, size_t sizes_len, const uint8_t *losses,
+                                                   size_t losses_len, uint8_t *path_sizes, size_t path_sizes_len,
+                                                   uint8_t *path_losses, size_t path_losses_len);
+
+/*
  * Selects an entry of the path of so many entries at the penalty p / q (R20 to R23): from the first entry on it moves to the next
  * one as long as that costs less, where a model costs q * loss + p * size. On a path that the library made this is the cheapest
  * of all its models, and the smallest one of several. It writes nothing.
@@ -234,6 +251,16 @@ struct foldwig_path_result foldwig_append_entries(struct foldwig_entry *entries,
  */
 struct foldwig_path_result foldwig_build_entries(const struct foldwig_entry *models, size_t models_len,
                                                  struct foldwig_entry *entries, size_t entries_len);
+
+/*
+ * Builds the path of an array of models at the front of an array of entries by the older method, as foldwig_build_quadratic does
+ * (R94 to R96). The tests are 0, and all else is as foldwig_build_entries has it. It is a yardstick as well: its time grows with the
+ * number of models times the number of entries.
+ * Refusals, in order: 1, 2, then at the first bad model 5, 6 or 7, then 9.
+ * Stack: 132,000 bytes.
+ */
+struct foldwig_path_result foldwig_build_quadratic_entries(const struct foldwig_entry *models, size_t models_len,
+                                                           struct foldwig_entry *entries, size_t entries_len);
 
 /*
  * Selects an entry of the path of n entries at the front of an array at the penalty p / q, as foldwig_select does.

@@ -10,7 +10,7 @@ use borrow.Author.Tests.{le-leb, lt-leb}
 use borrow.Rule.Slice.PartMut.{putMid}
 use Rattle.path.specs.Refusal.{Check, check, refusalOf, roomFor, maxModels}
 use Rattle.path.specs.Append.{PathOutcome, pathRefused}
-use Rattle.path.proofs.Held.{held-length, held-cleared}
+use Rattle.path.proofs.Held.{held-left}
 use Rattle.path.proofs.Checks.{check-fails, check-passes, last-passes, fails-early, passes-on, refuses, accepts, refusal-is}
 use Rattle.build.specs.Build.{built, countOf, listChecks, checksOf, buildChecks, buildLeft, buildOf}
 use Rattle.build.specs.Inner.{BuiltIn}
@@ -73,10 +73,6 @@ module _ (a b s₀ l₀ : List ℕ) where
       → record { refusal = 0; entries = k; tests = t; sizes = s'; losses = l' } ≡ buildOf a b s₀ l₀
   build-done h s l s' l' k t f x y =
       let n = length a in
-      let path = built a b n in
       let ok = buildable a b (length s₀) (length l₀) h in
-      let entries : length path ≡ k = held-length path s₀ l₀ s l k n (f .held) in
-      let cleared = held-cleared path s₀ l₀ s l k n (f .held) (ok .1 .sizes-fit) (ok .1 .losses-fit) in
-      let done : record { refusal = 0; entries = k; tests = t; sizes = s'; losses = l' } ≡ buildLeft a b (countOf a b) s₀ l₀ =
-      rw (ok .0, x, y, cleared .0, cleared .1, entries, f .counted) in
-      done ∙ build-accepted h
+      let left = held-left (built a b n) s₀ l₀ s l k n (f .held) (ok .1 .sizes-fit) (ok .1 .losses-fit) t s' l' x y in
+      (rw (ok .0, ← (f .counted)) left) ∙ build-accepted h

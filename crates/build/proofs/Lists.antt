@@ -101,6 +101,7 @@ buildable a b m n h =
     let e : count ≡ length a = omega arith in (
       e,
       record {
+        some = omega arith;
         good = rw e at (models .0);
         few = omega arith;
         paired = omega arith;

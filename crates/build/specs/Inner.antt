@@ -7,8 +7,9 @@ use Rattle.path.specs.Refusal.{refusalOf, maxModels}
 use Rattle.path.specs.Inner.{Held}
 use Rattle.build.specs.Build.{listChecks, built, builtTests}
 
--- There are as many losses as sizes, none of the models is bad, and two buffers have room for all.
+-- There are models, as many losses as sizes, none of the models is bad, and two buffers have room for all.
 pub record Buildable (sizes losses : List ℕ) (sizesRoom lossesRoom : ℕ) : Type 0 where
+  pub some : 1 ≤ length sizes
   pub good : refusalOf (listChecks sizes losses 0 (length sizes)) ≡ 0
   pub few : length sizes ≤ maxModels
   pub paired : length sizes ≤ length losses

@@ -45,7 +45,7 @@ pub fn larger(a: usize, b: usize) -> usize
 }
 
 // The refusal of a build into buffers of two lengths: the first of 1, 2, 5, 6, 7 and 9, or 0.
-fn build_refusal(sizes: &[u64], losses: &[u64], sizes_room: usize, losses_room: usize) -> u64
+pub fn build_refusal(sizes: &[u64], losses: &[u64], sizes_room: usize, losses_room: usize) -> u64
     ensures { λ r. ⌜ r ≡ refusalOf
         (buildChecks (now (sizes .entry)) (now (losses .entry)) «sizes_room» «losses_room») ⌝ }
 {

@@ -15,6 +15,7 @@ use Rattle.path.proofs.Checks.{numbered, both, passed, check-fails, check-passe
 use Rattle.path.proofs.Cases.{append-refusal}
 use Rattle.build.specs.Build.{countOf, listChecks, buildChecks, buildOf}
 use Rattle.build.proofs.Lists.{list-numbered}
+use Rattle.quadratic.specs.Quadratic.{quadraticOf}
 use Rattle.select.specs.Select.{selectRefused, selectOf}
 use Rattle.select.specs.Breakpoints.{BreakpointsOutcome, breakpointsRefused, breakpointsOf}
 use Rattle.select.specs.declared.SelectResult.{SelectResult}
@@ -79,15 +80,21 @@ numbered-append [] ds n m = m
 numbered-append (c ∷ cs) ds n m =
     let b = both (ltb 0 (c .number)) (numbered cs) n in rw (b .0) (numbered-append cs ds (b .1) m)
 
+-- The checks of a build have numbers above 0.
+build-numbered : (a b : List ℕ) (m n : ℕ) → numbered (buildChecks a b m n) ≡ true
+build-numbered a b m n =
+    let count = countOf a b in
+    numbered-append (listChecks a b 0 count) (check 9 (roomFor count (m ∷ n ∷ [])) ∷ []) (list-numbered a b count 0) refl
+
 pub path-refusals : PathRefusals
-unfolding appendOf buildOf selectOf breakpointsOf
+unfolding appendOf buildOf quadraticOf selectOf breakpointsOf
 path-refusals =
     record {
       append = λ s l n m. refuses-by-checks _ (λ (o : PathOutcome). o .refusal) (pathRefused s l) _ refl refl (λ c. refl);
       build = λ a b s l.
-          let n = countOf a b in
-          let room = check 9 (roomFor n (length s ∷ length l ∷ [])) in
-          refuses-by-checks (buildChecks a b (length s) (length l)) (λ (o : PathOutcome). o .refusal) (pathRefused s l) _ (numbered-append (listChecks a b 0 n) (room ∷ []) (list-numbered a b n 0) refl) refl (λ c. refl);
+          refuses-by-checks _ (λ (o : PathOutcome). o .refusal) (pathRefused s l) _ (build-numbered a b (length s) (length l)) refl (λ c. refl);
+      quadratic = λ a b s l.
+          refuses-by-checks _ (λ (o : PathOutcome). o .refusal) (pathRefused s l) _ (build-numbered a b (length s) (length l)) refl (λ c. refl);
       select = λ s l n p q. refuses-by-checks _ (λ (r : SelectResult). r .refusal) selectRefused _ refl refl (λ c. refl);
       breakpoints = λ s l n a b. refuses-by-checks _ (λ (o : BreakpointsOutcome). o .refusal) (breakpointsRefused a b) _ refl refl (λ c. refl);
     }

@@ -7,9 +7,10 @@ use Prim.Native.Nat.{ℕ, zero, suc, _+_, _*_, _-_, _≤_, _<_}
 use lib.ListN.{length}
 use Rattle.path.specs.Model.{Model, model, modelAt, pathOf}
 use Rattle.path.specs.Update.{Fraction, below, breakpoint, pathBreakpoints, holds, kept, passedOver, tried}
-use Rattle.path.specs.Refusal.{follows, inRange, validPath, sizeAbove}
+use Rattle.path.specs.Refusal.{follows, inRange, ordered, validPath, sizeAbove}
 use Rattle.path.specs.Append.{PathOutcome, appendChecks, appendOf}
 use Rattle.build.specs.Build.{countOf, buildChecks, buildOf}
+use Rattle.quadratic.specs.Quadratic.{nearest, quadraticOf}
 use Rattle.select.specs.Penalty.{validPenalty, cost}
 use Rattle.select.specs.Select.{selectChecks, selectOf}
 use Rattle.select.specs.Breakpoints.{BreakpointsOutcome, breakpointsChecks, breakpointsOf}
@@ -136,6 +137,31 @@ BuildClaim =
     → SameAsAppends (buildOf sizes losses s l) (modelsOf sizes losses)
     (appends (emptyState s l) (modelsFrom sizes losses 0 (countOf sizes losses)))
 
+-- Of some models y has the smallest breakpoint to e, and of those with that breakpoint the smallest size.
+pub record SmallestBreakpoint (e y : Model) (ms : List Model) : Type 0 where
+  pub listed : List·Memᴰ y ms
+  pub least : (z : Model) → List·Memᴰ z ms → below (breakpoint z e) (breakpoint y e) ≡ false
+  pub smallest : (z : Model) → List·Memᴰ z ms → below (breakpoint y e) (breakpoint z e) ≡ false → y .size ≤ z .size
+
+-- Of models in order, the nearest is so.
+abbrev pub NearestClaim : Type 0
+NearestClaim = (e d : Model) (r : List Model) → ordered (e ∷ d ∷ r) ≡ true → SmallestBreakpoint e (nearest e d r) (d ∷ r)
+
+-- An outcome without its tests.
+abbrev pub untested : PathOutcome → PathOutcome
+untested o = record { refusal = o .refusal; entries = o .entries; tests = 0; sizes = o .sizes; losses = o .losses }
+
+-- The outcome o of the older method is the outcome b of a build but for the tests, and so has its path and its breakpoints.
+pub record SameAsBuild (o b : PathOutcome) : Type 0 where
+  pub whole : o ≡ untested b
+  pub path : pathOf (o .sizes) (o .losses) (o .entries) ≡ pathOf (b .sizes) (b .losses) (b .entries)
+  pub breakpoints : pathBreakpoints (pathOf (o .sizes) (o .losses) (o .entries))
+      ≡ pathBreakpoints (pathOf (b .sizes) (b .losses) (b .entries))
+
+-- On every list, accepted or refused, the older method leaves what a build leaves.
+abbrev pub QuadraticClaim : Type 0
+QuadraticClaim = (sizes losses s l : List ℕ) → SameAsBuild (quadraticOf sizes losses s l) (buildOf sizes losses s l)
+
 -- The outcome o of an append has m as the only entry, after no test.
 pub record OnlyEntry (m : Model) (o : PathOutcome) : Type 0 where
   pub one-entry : o .entries ≡ 1
@@ -186,6 +212,10 @@ pub record PathRefusals : Type 0 where
       → RefusesByChecks (buildChecks sizes losses (length pathSizes) (length pathLosses)) (λ (o : PathOutcome). o .refusal)
       (λ number. record { refusal = number; entries = 0; tests = 0; sizes = pathSizes; losses = pathLosses })
       (buildOf sizes losses pathSizes pathLosses)
+  pub quadratic : (sizes losses pathSizes pathLosses : List ℕ)
+      → RefusesByChecks (buildChecks sizes losses (length pathSizes) (length pathLosses)) (λ (o : PathOutcome). o .refusal)
+      (λ number. record { refusal = number; entries = 0; tests = 0; sizes = pathSizes; losses = pathLosses })
+      (quadraticOf sizes losses pathSizes pathLosses)
   pub select : (sizes losses : List ℕ) (n p q : ℕ)
       → RefusesByChecks (selectChecks sizes losses n p q) (λ (r : SelectResult). r .refusal)
       (λ number. record { refusal = number; index = 0; size = 0; loss = 0 })

@@ -1,6 +1,7 @@
 -- From a call on the front of lists to the call on entries. What is copied of entries is the front of their sizes and of their losses,
 -- and what is copied back is a front of these again, with the rest as it was.
 use mathlib.Core.Path.{_≡_, refl, sym, ap, _∙_}
+use mathlib.Core.Bool.{Bool}
 use mathlib.Core.Logic.{inr, ⊎-elim}
 use mathlib.Core.List.{List, [], _∷_, _++_, map, append-assoc}
 use Prim.Native.Nat.{ℕ, zero, suc, _+_, _≤_, min}
@@ -13,8 +14,8 @@ use Rattle.path.specs.Append.{PathOutcome, pathOutcome, appendOf}
 use Rattle.path.specs.declared.PathResult.{PathResult}
 use Rattle.path.proofs.Cuts.{le-or-lt}
 use Rattle.path.proofs.PathCuts.{pathLonger, append-cut}
-use Rattle.build.specs.Build.{buildOf}
-use Rattle.build.proofs.BuildCuts.{build-cut}
+use Rattle.quadratic.specs.Quadratic.{buildBy}
+use Rattle.quadratic.proofs.Methods.{cut-by}
 use Rattle.select.specs.Select.{selectOf}
 use Rattle.select.specs.Breakpoints.{breakpointsOf}
 use Rattle.select.proofs.SelectCuts.{select-cut, breakpointsLonger, breakpoints-cut}
@@ -133,19 +134,19 @@ module _ (ys : List Entry) (zs₁ zs₂ : List ℕ) (e₁ : length zs₁ ≡ max
       (e ∙ (λ i. appendOf (copied-all sizeOf ys maxModels zs₁ e₁ i) (copied-all lossOf ys maxModels zs₂ e₂ i) n new))
       ∙ sym (append-cut maxModels (sizesIn ys) (lossesIn ys) n new (inr (omega arith)))
 
-  -- The outcome of a build that is copied back, from models in two lists of one place more.
-  pub build-entries : (ms : List Entry) (us vs : List ℕ) → length us ≡ maxModels + 1 → length vs ≡ maxModels + 1
+  -- The outcome of a build by either method that is copied back, from models in two lists of one place more.
+  pub build-entries : (older : Bool) (ms : List Entry) (us vs : List ℕ) → length us ≡ maxModels + 1 → length vs ≡ maxModels + 1
       → (r : PathResult) (s l : List ℕ) → length s ≡ maxModels → length l ≡ maxModels
       → pathOutcome r (take m s) (take m l)
-      ≡ buildOf
+      ≡ buildBy older
       (take (min (length ms) (maxModels + 1)) (copied sizeOf ms us (min (length ms) (maxModels + 1))))
       (take (min (length ms) (maxModels + 1)) (copied lossOf ms vs (min (length ms) (maxModels + 1))))
       sizes losses
-      → pathOutcome r (sizesIn (stored ys s l m)) (lossesIn (stored ys s l m)) ≡ buildOf (sizesIn ms) (lossesIn ms) (sizesIn ys) (lossesIn ys)
-  build-entries ms us vs eu ev r s l es el e =
+      → pathOutcome r (sizesIn (stored ys s l m)) (lossesIn (stored ys s l m)) ≡ buildBy older (sizesIn ms) (lossesIn ms) (sizesIn ys) (lossesIn ys)
+  build-entries older ms us vs eu ev r s l es el e =
       let c = maxModels + 1 in
       stored-outcome ys maxModels r s l es el _
-      (e ∙ (λ i. buildOf
+      (e ∙ (λ i. buildBy older
       (copied-all sizeOf ms c us eu i) (copied-all lossOf ms c vs ev i)
       (copied-all sizeOf ys maxModels zs₁ e₁ i) (copied-all lossOf ys maxModels zs₂ e₂ i)))
-      ∙ sym (build-cut (sizesIn ms) (lossesIn ms) (sizesIn ys) (lossesIn ys) maxModels (λ h. h) c (omega arith))
+      ∙ sym (cut-by older (sizesIn ms) (lossesIn ms) (sizesIn ys) (lossesIn ys) maxModels (λ h. h) c (omega arith))

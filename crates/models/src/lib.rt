@@ -6,7 +6,7 @@ ghost use Prim.Native.Nat.{min};
 ghost use lib.ListN.{length, take};
 ghost use Rattle.path.specs.Model.{model};
 ghost use Rattle.path.specs.Append.{pathOutcome, appendOf};
-ghost use Rattle.build.specs.Build.{buildOf};
+ghost use Rattle.quadratic.specs.Quadratic.{buildBy};
 ghost use Rattle.select.specs.Select.{selectOf};
 ghost use Rattle.select.specs.Breakpoints.{breakpointsOutcome, breakpointsOf};
 ghost use Rattle.models.specs.Entries.{sizesIn, lossesIn};
@@ -97,7 +97,7 @@ pub fn append_entries(entries: &mut [Entry], n: usize, size: u64, loss: u64) -> 
     made
 }
 
-// A build from the front of two lists over the front of two others.
+// A build from the front of two lists over the front of two others, by the older method where `older` says so.
 fn build_front(
     sizes: &[u64],
     losses: &[u64],
@@ -105,14 +105,16 @@ fn build_front(
     path_sizes: &mut [u64],
     path_losses: &mut [u64],
     room: usize,
+    older: bool,
 ) -> PathResult
     requires { ⌜ Places count (now sizes) (now losses) × Places room (now «path_sizes») (now «path_losses») ⌝ }
     ensures { λ r. ⌜ pathOutcome r (take room (now («path_sizes» .exit))) (take room (now («path_losses» .exit)))
-        ≡ buildOf
+        ≡ buildBy older
         (take count (now (sizes .entry))) (take count (now (losses .entry)))
         (take room (now («path_sizes» .entry))) (take room (now («path_losses» .entry))) ⌝ }
 {
-    build::build(
+    quadratic::build_by(
+        older,
         &sizes[..count],
         &losses[..count],
         &mut path_sizes[..room],
@@ -120,10 +122,11 @@ fn build_front(
     )
 }
 
-// Builds the path of a list of models at the front of a list of entries, with zeros after it as far as the number of models.
-pub fn build_entries(models: &[Entry], entries: &mut [Entry]) -> PathResult
+// Builds the path of a list of models at the front of a list of entries, with zeros after it as far as the number of models, by the
+// older method where `older` says so.
+pub fn build_entries(models: &[Entry], entries: &mut [Entry], older: bool) -> PathResult
     ensures { λ r. ⌜ pathOutcome r (sizesIn (now (entries .exit))) (lossesIn (now (entries .exit)))
-        ≡ buildOf
+        ≡ buildBy older
         (sizesIn (now (models .entry))) (lossesIn (now (models .entry)))
         (sizesIn (now (entries .entry))) (lossesIn (now (entries .entry))) ⌝ }
 {
@@ -140,6 +143,7 @@ pub fn build_entries(models: &[Entry], entries: &mut [Entry]) -> PathResult
         &mut path_sizes,
         &mut path_losses,
         room,
+        older,
     );
     zip(entries, &path_sizes, &path_losses);
     made

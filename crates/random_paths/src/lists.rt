@@ -1,5 +1,5 @@
-// Random lists: builds, the same models appended one by one, breakpoints and selections, against what an exhaustive search
-// finds.
+// Random lists: builds by both methods, the same models appended one by one, breakpoints and selections, against what an exhaustive
+// search finds.
 
 use crate::history;
 use crate::history::History;
@@ -64,6 +64,23 @@ fn append_faults(sizes: &[u64], losses: &[u64]) -> u64 {
     let mut path_losses = [MARK; 12];
     let made = append_all(sizes, losses, &mut path_sizes, &mut path_losses);
     history::faults(sizes, losses, sizes.len(), &path_sizes, &path_losses, made)
+}
+
+// The mismatches of a build by the older method, which reports no tests.
+fn quadratic_faults(sizes: &[u64], losses: &[u64]) -> u64 {
+    let mut path_sizes = [MARK; 12];
+    let mut path_losses = [MARK; 12];
+    let answer = answer_of(quadratic::build_quadratic(
+        sizes,
+        losses,
+        &mut path_sizes,
+        &mut path_losses,
+    ));
+    let made = history::after(history::empty(), answer, sizes.len() as u64);
+    plus(
+        history::path_faults(sizes, losses, sizes.len(), &path_sizes, &path_losses, made),
+        differs(made.tests, 0),
+    )
 }
 
 // The distance of the values i and i + 1 of the first m, and a mark past them.
@@ -207,8 +224,12 @@ fn check_list(sizes: &[u64], losses: &[u64]) -> Totals {
     let selecting = penalty_faults(sizes, losses, &path_sizes, &path_losses, entries);
     let listing = breakpoint_faults(&path_sizes, &path_losses, made.entries);
     let appending = append_faults(sizes, losses);
+    let older = quadratic_faults(sizes, losses);
     Totals {
-        faults: plus(plus(building, selecting), plus(listing, appending)),
+        faults: plus(
+            plus(building, older),
+            plus(selecting, plus(listing, appending)),
+        ),
         models: n,
         passed: history::passed_over(losses, sizes.len()),
         entries: made.entries,

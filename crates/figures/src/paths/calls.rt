@@ -62,7 +62,62 @@ pub fn print_append(
     );
 }
 
-// A build in the first places of buffers. Where the buffers have not so many places, no call is made and the line ends early.
+// Prints on a line of its own what the older method answered, the number of places at which two buffers are not as before, and the
+// number of those that do not hold what a build left.
+fn print_older(
+    answer: Answer,
+    sizes: &[u64; 4100],
+    losses: &[u64; 4100],
+    before: &[u64; 4100],
+    built_sizes: &[u64; 4100],
+    built_losses: &[u64; 4100],
+) {
+    print(
+        b"  by the older method: refusal # entries # tests # changed # # not as built # #\n",
+        &[
+            answer.refusal,
+            answer.entries,
+            answer.tests,
+            differences(sizes, before),
+            differences(losses, before),
+            differences(sizes, built_sizes),
+            differences(losses, built_losses),
+        ],
+    );
+}
+
+// A build by the older method in the first places of buffers, beside what a build left in others.
+pub fn print_quadratic(
+    sizes: &[u64],
+    losses: &[u64],
+    room: usize,
+    built_sizes: &[u64; 4100],
+    built_losses: &[u64; 4100],
+) {
+    let before = [MARK; 4100];
+    let mut path_sizes = before;
+    let mut path_losses = before;
+    if 4100 < room {
+        return;
+    }
+    let made = quadratic::build_quadratic(
+        sizes,
+        losses,
+        &mut path_sizes[0..room],
+        &mut path_losses[0..room],
+    );
+    print_older(
+        answer_of(made),
+        &path_sizes,
+        &path_losses,
+        &before,
+        built_sizes,
+        built_losses,
+    );
+}
+
+// A build by both methods in the first places of buffers. Where the buffers have not so many places, no call is made and the line
+// ends early.
 pub fn print_build(sizes: &[u64], losses: &[u64], room: usize) {
     let before = [MARK; 4100];
     let mut path_sizes = before;
@@ -77,6 +132,7 @@ pub fn print_build(sizes: &[u64], losses: &[u64], room: usize) {
         &mut path_losses[0..room],
     );
     print_answer(answer_of(made), &path_sizes, &path_losses, &before, &before);
+    print_quadratic(sizes, losses, room, &path_sizes, &path_losses);
 }
 
 // A selection at the penalty p / q from a lent path, and a list of its breakpoints in as many places as there can be.

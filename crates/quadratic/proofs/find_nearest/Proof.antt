@@ -1,0 +1,124 @@
+-- `quadratic::find_nearest` meets its contract. The loop's invariant: `best` is the place of the nearest of the first i models.
+use mathlib.Core.Path.{_≡_, sym, subst, _∙_}
+use mathlib.Core.Logic.{⊎-elim}
+use Prim.Native.Nat.{ℕ, _+_, _-_, _≤_}
+use native.Mathlib.Omega.{arith}
+use Rattle.path.specs.Model.{modelAt}
+use Rattle.quadratic.specs.Inner.{NearestAt}
+use Rattle.quadratic.proofs.Searches.{nearest-first, nearest-now, nearest-still, comparable-at}
+use Rattle.quadratic.proofs.find_nearest.Statement.{statement}
+use Rattle.quadratic.proofs.find_nearest.Tie as tie
+
+abbrev Inv-loop : tie.InvT-loop
+Inv-loop sizes losses at size loss best₀ i₀ best i = (i ≤ at) × NearestAt sizes losses (modelAt sizes losses at) i best
+
+abbrev μ-loop : tie.MeasureT-loop
+μ-loop sizes losses at size loss best₀ i₀ best i = at - i
+
+-- Model i is the nearest so far.
+now-nearest : (c : tie.Then1 Inv-loop μ-loop) → NearestAt (c .before .before .before .before .before .before .before .before .before .before .before .before .args .sizes .now) (c .before .before .before .before .before .before .before .before .before .before .before .before .args .losses .now) (modelAt (c .before .before .before .before .before .before .before .before .before .before .before .before .args .sizes .now) (c .before .before .before .before .before .before .before .before .before .before .before .before .args .losses .now) (c .before .before .before .before .before .before .before .before .before .before .before .before .args .at)) (c .before .before .before .before .before .before .before .loop .i + 1) (c .before .before .before .before .before .before .before .loop .i)
+now-nearest c =
+    let a = c .before .before .before .before .before .before .before .before .before .before .before .before .args in
+    let lp = c .before .before .before .before .before .before .before .loop in
+    nearest-now (a .sizes .now) (a .losses .now) (modelAt (a .sizes .now) (a .losses .now) (a .at)) (lp .i) (lp .best) (lp .inv .1) (sym (c .before .is-nearer .ensures) ∙ c .if1 .taken)
+
+-- Another one still is.
+still-nearest : (c : tie.Else1 Inv-loop μ-loop) → NearestAt (c .before .before .before .before .before .before .before .before .before .before .before .before .args .sizes .now) (c .before .before .before .before .before .before .before .before .before .before .before .before .args .losses .now) (modelAt (c .before .before .before .before .before .before .before .before .before .before .before .before .args .sizes .now) (c .before .before .before .before .before .before .before .before .before .before .before .before .args .losses .now) (c .before .before .before .before .before .before .before .before .before .before .before .before .args .at)) (c .before .before .before .before .before .before .before .loop .i + 1) (c .before .before .before .before .before .before .before .loop .best)
+still-nearest c =
+    let a = c .before .before .before .before .before .before .before .before .before .before .before .before .args in
+    let lp = c .before .before .before .before .before .before .before .loop in
+    nearest-still (a .sizes .now) (a .losses .now) (modelAt (a .sizes .now) (a .losses .now) (a .at)) (lp .i) (lp .best) (lp .inv .1) (sym (c .before .is-nearer .ensures) ∙ c .if1 .left)
+
+mul-size : tie.Need-mul-size Inv-loop μ-loop
+mul-size c = omega (arith, c .before .before .pre .1 .in-sizes)
+
+shared-slice-read-size : tie.Need-shared-slice-read-size Inv-loop μ-loop
+shared-slice-read-size c = omega (arith, c .before .before .before .pre .1 .in-sizes)
+
+mul-loss : tie.Need-mul-loss Inv-loop μ-loop
+mul-loss c = omega (arith, c .before .before .before .pre .1 .in-losses)
+
+shared-slice-read-loss : tie.Need-shared-slice-read-loss Inv-loop μ-loop
+shared-slice-read-loss c = omega (arith, c .before .before .before .before .pre .1 .in-losses)
+
+loop-holds : tie.Need-loop-holds Inv-loop μ-loop
+loop-holds c =
+    let a = c .before .before .before .before .args in
+    (c .before .before .before .before .pre .0, nearest-first (a .sizes .now) (a .losses .now) (modelAt (a .sizes .now) (a .losses .now) (a .at)))
+
+mul-is-nearer : tie.Need-mul-is-nearer Inv-loop μ-loop
+mul-is-nearer c = omega (arith, c .before .before .before .before .before .before .pre .1 .in-sizes, c .before .loop .inv .1 .inside)
+
+shared-slice-read-is-nearer : tie.Need-shared-slice-read-is-nearer Inv-loop μ-loop
+shared-slice-read-is-nearer c = omega (arith, c .before .before .before .before .before .before .before .pre .1 .in-sizes, c .before .before .loop .inv .1 .inside)
+
+mul-is-nearer-2 : tie.Need-mul-is-nearer-2 Inv-loop μ-loop
+mul-is-nearer-2 c = omega (arith, c .before .before .before .before .before .before .before .pre .1 .in-losses, c .before .before .loop .inv .1 .inside)
+
+shared-slice-read-is-nearer-2 : tie.Need-shared-slice-read-is-nearer-2 Inv-loop μ-loop
+shared-slice-read-is-nearer-2 c = omega (arith, c .before .before .before .before .before .before .before .before .pre .1 .in-losses, c .before .before .before .loop .inv .1 .inside)
+
+mul-is-nearer-3 : tie.Need-mul-is-nearer-3 Inv-loop μ-loop
+mul-is-nearer-3 c = omega (arith, c .before .before .before .before .before .before .before .before .pre .1 .in-sizes)
+
+shared-slice-read-is-nearer-3 : tie.Need-shared-slice-read-is-nearer-3 Inv-loop μ-loop
+shared-slice-read-is-nearer-3 c = omega (arith, c .before .before .before .before .before .before .before .before .before .pre .1 .in-sizes)
+
+mul-is-nearer-4 : tie.Need-mul-is-nearer-4 Inv-loop μ-loop
+mul-is-nearer-4 c = omega (arith, c .before .before .before .before .before .before .before .before .before .pre .1 .in-losses)
+
+shared-slice-read-is-nearer-4 : tie.Need-shared-slice-read-is-nearer-4 Inv-loop μ-loop
+shared-slice-read-is-nearer-4 c = omega (arith, c .before .before .before .before .before .before .before .before .before .before .pre .1 .in-losses)
+
+is-nearer-requires : tie.Need-is-nearer-requires Inv-loop μ-loop
+is-nearer-requires c κs =
+    let a = c .before .before .before .before .before .before .before .before .before .before .args in
+    let lp = c .before .before .before .before .before .loop in
+    comparable-at (a .sizes .now) (a .losses .now) (a .at) (lp .best) (lp .i) (c .before .before .before .before .before .before .before .before .before .before .pre .1) (lp .inv .1 .inside) (c .before .before .before .before .loop-test .taken)
+
+add-i : tie.Need-add-i Inv-loop μ-loop
+add-i c = omega arith
+
+loop-less : tie.Need-loop-less Inv-loop μ-loop
+loop-less c = omega arith
+
+loop-again : tie.Need-loop-again Inv-loop μ-loop
+loop-again c = (
+  omega arith,
+  ⊎-elim
+      (λ w. rw (w .1) (now-nearest record { before = c .before; if1 = w .0 }))
+      (λ w. rw (w .1) (still-nearest record { before = c .before; if1 = w .0 }))
+      (c .if1 .came),
+)
+
+returns : tie.Need-returns Inv-loop μ-loop
+returns c =
+    let a = c .before .before .before .before .before .before .args in
+    let lp = c .before .loop in
+    let e : lp .i ≡ a .at = omega arith in
+    subst (λ (n : ℕ). NearestAt (a .sizes .now) (a .losses .now) (modelAt (a .sizes .now) (a .losses .now) (a .at)) n (lp .best)) e (lp .inv .1)
+
+pub find-nearest-spec : {M : Type 1} → statement M
+find-nearest-spec =
+    tie.close
+    (tie.spec
+    Inv-loop
+    μ-loop
+    mul-size
+    shared-slice-read-size
+    mul-loss
+    shared-slice-read-loss
+    loop-holds
+    mul-is-nearer
+    shared-slice-read-is-nearer
+    mul-is-nearer-2
+    shared-slice-read-is-nearer-2
+    mul-is-nearer-3
+    shared-slice-read-is-nearer-3
+    mul-is-nearer-4
+    shared-slice-read-is-nearer-4
+    is-nearer-requires
+    add-i
+    loop-less
+    loop-again
+    returns)
