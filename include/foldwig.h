@@ -201,12 +201,12 @@ struct foldwig_path_result foldwig_build(const uint8_t *sizes, size_t sizes_len,
                                          size_t path_losses_len);
 
 /*
- * Builds the path of a list of models as foldwig_build does, by an older method (R94 to R96). Of the models that are not passed over
- * it begins at the one of the largest size. Among all smaller sizes it takes the one with the smallest breakpoint to the present
- * entry, of several the smallest size, and goes on from there down to the smallest size. The models are given, the path is written
- * and the refusals are found as foldwig_build has it, and on every list the outcome is the same but for the tests: this method
- * makes none, and they are 0. It is there as a yardstick. Its time grows with the number of models times the number of entries,
- * where that of foldwig_build grows with the number of models.
+ * Builds the path of a list of models as foldwig_build does, by an older method (R94 to R96). The last entry is the largest of the
+ * models that are not passed over. Before each entry stands the one of all smaller models whose breakpoint to it is least, and of
+ * several such the smallest, back to the smallest model. How the models are given, how the path is written and what is refused is
+ * as foldwig_build has it, and on every list the outcome is the same but for the tests: this method makes none, and they are 0. It
+ * is there as a yardstick. Its time grows with the number of models times the number of entries, where that of foldwig_build grows
+ * with the number of models.
  * Refusals, in order: 11, 1, 2, then at the first bad model 5, 6 or 7, then 9. The buffers need a place for each model, passed
  * over or not.
  * Stack: 132,000 bytes.

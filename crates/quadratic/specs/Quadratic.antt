@@ -18,7 +18,8 @@ unfoldable pub nearest : Model → Model → List Model → Model
 nearest e d [] = d
 nearest e d (c ∷ r) = cond (below (breakpoint d e) (breakpoint (nearest e c r) e)) d (nearest e c r)
 
--- The size of the next entry after e, of whose smaller models it is the nearest. Where there are none it is 0, which is no size.
+-- The size of the next entry after e, which is the nearest of the models smaller than e. Where there are none it is 0, which is no
+-- size.
 unfoldable pub nextSize : Model → List Model → ℕ
 nextSize e [] = 0
 nextSize e (d ∷ r) = nearest e d r .size
