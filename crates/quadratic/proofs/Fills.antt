@@ -1,18 +1,18 @@
 -- The path as it is left at the front of the buffers: in order, since its entries are models in order with some left out, moved there
 -- from the end of the places.
-use mathlib.Core.Path.{_≡_, refl, ap, sym, _∙_}
+use mathlib.Core.Path.{_≡_, ap, _∙_}
 use mathlib.Core.Bool.{Bool, true, false, cond}
-use mathlib.Core.List.{List, [], _∷_, _++_}
+use mathlib.Core.List.{List, [], _∷_}
 use Prim.Native.Nat.{ℕ, _+_, _-_, _≤_, _<_}
 use native.Mathlib.Omega.{arith}
 use lib.Dec.{eqb}
 use lib.ListN.{length, getD, take, drop, length-drop, List·getD-append}
 use lib.Seq.{length-take-le, getD-take}
-use Rattle.path.specs.Model.{Model, pathOf}
+use Rattle.path.specs.Model.{Model}
 use Rattle.path.specs.Refusal.{ordered}
 use Rattle.path.specs.Buffer.{overwritten}
 use Rattle.path.specs.Inner.{Rest, Held}
-use Rattle.path.proofs.Order.{Before, before-trans, follows-before, ordered-parts}
+use Rattle.path.proofs.Order.{before-trans, follows-before, ordered-parts}
 use Rattle.path.proofs.Paths.{path-agrees}
 use Rattle.path.proofs.Updates.{ordered-more}
 use Rattle.path.proofs.Held.{rest-from, rest-overwritten, held-length}

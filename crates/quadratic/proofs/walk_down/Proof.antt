@@ -1,6 +1,5 @@
 -- `quadratic::walk_down` meets its contract. The loop's invariant: the entries found lie at the end of the places, the one found last
 -- stood at place `at`, and the models before it are as they were.
-use mathlib.Core.Path.{_≡_}
 use Prim.Native.Nat.{_+_, _-_, _≤_}
 use native.Mathlib.Omega.{arith}
 use lib.ListN.{length}
