@@ -1,7 +1,8 @@
 // Times a season, 512 samples that foldwig_extend is given one by one on one table, beside fresh calls of foldwig_signal_path on all of
-// them and beside the same table in plain C (season_plain.c), and one foldwig_split_from on the table beside a fresh foldwig_split. All
-// of it runs in one process and in turns, and each turn goes through all signals; a time is the least CPU time of a season, or of a
-// call, over all turns. Before that it compares tables, paths and segmentations, and ends with status 1 where they differ.
+// them and beside the same table in plain C (season_plain.c), and one foldwig_split_from on the table beside a fresh foldwig_split. Also
+// times the reading of the columns so far alone, in plain C, which no extend can do without. All of it runs in one process and in turns,
+// and each turn goes through all signals; a time is the least CPU time of a season, or of a call, over all turns. Before that it
+// compares tables, paths and segmentations, and ends with status 1 where they differ.
 // Usage: season time [TURNS]     prints the times, a line for each signal
 //        season tables FILE...   prints tables of such times, and ends with status 1 where a season is slower than three fresh calls
 //                                and should not be. With several files, as of programs with the calls at different places in memory,
@@ -25,7 +26,7 @@ enum { FRESH_CALLS = 3 };
 // The kinds where it may: on these a fresh call makes little search or none, while each extend still looks through the table so far.
 static const enum kind may_be_slower[] = {CONSTANT, BUSY_THEN_QUIET};
 
-enum job { PLAIN_SEASON, SEASON, FRESH_PATH, SPLIT_FROM, FRESH_SPLIT, JOBS };
+enum job { PLAIN_SEASON, PLAIN_LOOK, SEASON, FRESH_PATH, SPLIT_FROM, FRESH_SPLIT, JOBS };
 
 // A path, and a segmentation: what a call answered and what it left in the buffers lent to it. The numbers are those of this machine,
 // which keeps the low byte first.
@@ -44,6 +45,7 @@ struct segmentation {
 // What the jobs leave, each in its own place; the path of a fresh split is not looked at.
 struct left {
     struct plain_table plain;
+    uint64_t looked_at;
     uint8_t table[FOLDWIG_TABLE_LEN];
     struct path season, fresh_path, of_split;
     struct segmentation split_from, fresh_split;
@@ -55,6 +57,14 @@ static void run_plain_season(const struct signal *s, struct plain_table *plain)
     plain_begin(plain);
     for (size_t n = 0; n < s->n; n++)
         plain_extend(plain, s->samples[n]);
+}
+
+// Reads the columns so far once for each sample of a season. Leaves the bits of all values read.
+static void run_plain_look(const struct signal *s, const struct plain_table *plain, uint64_t *bits)
+{
+    *bits = 0;
+    for (size_t n = 0; n < s->n; n++)
+        *bits |= plain_look(plain, n);
 }
 
 // Leaves the path of the last call. Ends early with a call that is refused.
@@ -101,11 +111,13 @@ static void run_fresh_split(const struct signal *s, uint8_t *scratch, struct pat
     to->loss = r.loss;
 }
 
-// Does a job on a signal. A split from the table needs that of a season on the same signal before it.
+// Does a job on a signal. A look, and a split from the table, need the table of a season on the same signal before them.
 static void run(enum job job, const struct signal *s, struct left *left)
 {
     if (job == PLAIN_SEASON)
         run_plain_season(s, &left->plain);
+    else if (job == PLAIN_LOOK)
+        run_plain_look(s, &left->plain, &left->looked_at);
     else if (job == SEASON)
         run_season(s, left->table, &left->season);
     else if (job == FRESH_PATH)
@@ -126,6 +138,8 @@ static const char *difference(const struct signal *s)
         run(job, s, &left);
     if (left.season.refusal != 0 || left.fresh_path.refusal != 0 || left.split_from.refusal != 0 || left.fresh_split.refusal != 0)
         return "a call is refused";
+    if (left.looked_at != UINT64_MAX)
+        return "no mark was looked at";
     if (memcmp(left.table, left.plain.least, sizeof left.table) != 0)
         return "the tables differ";
     if (memcmp(&left.season, &left.fresh_path, sizeof left.season) != 0)
@@ -196,6 +210,14 @@ static void print_seasons(double least[][JOBS])
         print_ratio(least, draws_of(kind), SEASON, FRESH_PATH, FRESH_CALLS);
         puts("");
     }
+}
+
+// Prints what the reading of the columns so far takes, which is the same for all signals.
+static void print_look(double least[][JOBS], int count)
+{
+    printf("\n| read in plain C, and nothing else done | a season |\n|---|---|\n| the columns so far, before each sample |");
+    print_times(least, (unsigned)count, PLAIN_LOOK, 1, 0);
+    puts("");
 }
 
 static void print_splits(double least[][JOBS])
@@ -299,6 +321,7 @@ static int print_tables(char **files, int parts, int count)
     printf("Tables, paths and segmentations are equal. %d samples, limit %d, microseconds, mean over %d places of the calls in memory:\n\n",
            MAX_SAMPLES, LIMIT, parts);
     print_seasons(times);
+    print_look(times, count);
     printf("\nOne split at the penalty %d / %d:\n\n", P, Q);
     print_splits(times);
     bool reached = print_slower(times);

@@ -25,3 +25,13 @@ void plain_extend(struct plain_table *t, int16_t sample)
         t->least[k - 1][j - 1] = best;
     }
 }
+
+// Four rows at a time, the fastest of the ways that were tried.
+uint64_t plain_look(const struct plain_table *t, size_t n)
+{
+    uint64_t bits = 0;
+    for (size_t k = 0; k < TABLE_ROWS; k += 4)
+        for (size_t j = 0; j < n; j++)
+            bits |= t->least[k][j] | t->least[k + 1][j] | t->least[k + 2][j] | t->least[k + 3][j];
+    return bits;
+}

@@ -10,7 +10,7 @@ enum { TABLE_ROWS = 16 };
 struct plain_table {
     size_t n;
     struct sums sums;
-    uint64_t least[TABLE_ROWS][MAX_SAMPLES];
+    _Alignas(64) uint64_t least[TABLE_ROWS][MAX_SAMPLES];
 };
 
 // Begins a table with no samples.
@@ -18,4 +18,7 @@ void plain_begin(struct plain_table *t);
 
 // One more sample, where there are fewer than 512: fills its column.
 void plain_extend(struct plain_table *t, int16_t sample);
+
+// The bits of all values of the first n columns together: the least that a look at each of them costs.
+uint64_t plain_look(const struct plain_table *t, size_t n);
 #endif

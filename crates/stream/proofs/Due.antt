@@ -1,15 +1,17 @@
 -- Facts on the check of 12: columns pass it where each of their values does, and then a value is at most 2^44 where no mark is due. A walk
--- from the last place back ends at the first that fails, and values whose bits together make no number above 2^44 are as is due.
+-- from the last place back ends at the first that fails. Values whose bits together make no number above 2^44 are as is due, and marks are
+-- where the bits that they have in common are those of the mark.
 use mathlib.Core.Path.{_≡_, refl, sym, _∙_, ap}
 use mathlib.Core.Logic.{⊎-elim}
 use mathlib.Core.Bool.{Bool, true, false, cond, _&&_}
 use mathlib.Core.List.{List}
 use Prim.Native.Nat.{ℕ, zero, suc, _+_, _-_, min, _≤_, _<_}
 use native.Mathlib.Nat.{eq-or-lt-of-le}
+use native.Mathlib.Decide.{decLe}
 use native.Mathlib.Omega.{arith}
-use lib.Bits.{bitOr, or-add-and, and-le-l, and-le-r}
+use lib.Bits.{bitOr, bitAnd, or-add-and, and-self, and-le-l, and-le-r}
 use lib.Dec.{ltb, leb, eqb}
-use borrow.Author.Tests.{lt-ltb, le-ltb, leb-true, le-leb, eq-eqb}
+use borrow.Author.Tests.{lt-ltb, le-ltb, leb-true, le-leb, eq-eqb, ne-eqb}
 use Rattle.path.specs.Refusal.{maxLoss}
 use Rattle.path.proofs.Checks.{both}
 use Rattle.stream.specs.Table.{maxRows, mark, value, cellDue, rowDue, rowsDue, columnsDue}
@@ -100,35 +102,92 @@ module _ (t : List ℕ) (k : ℕ) where
       row-back (suc n) (omega arith) (due (suc n) l (omega arith)) ∙ ap (rowDue t k) p ∙ row-skips m n (omega arith) (λ j u w. due j u (omega arith)))
       (eq-or-lt-of-le {n = m} {m = suc n} h)
 
--- While the bits of a row's values are gathered, no value passed exceeds them.
-pub record Gathered (t : List ℕ) (k j bits : ℕ) : Type 0 where
-  pub low : k ≤ j
-  pub most : (i : ℕ) → k < i → i ≤ j → value t k i ≤ bits
+  -- A row that is due is so in front, and one that is not in front is not.
+  pub row-front : (m n : ℕ) → m ≤ n → rowDue t k n ≡ true → rowDue t k m ≡ true
+  unfolding rowDue
+  row-front m zero h e = let z : m ≡ 0 = omega arith in ap (rowDue t k) z ∙ e
+  row-front m (suc n) h e = ⊎-elim
+      (λ (q : m ≡ suc n). ap (rowDue t k) q ∙ e)
+      (λ (q : m < suc n). row-front m n (omega arith) (both (rowDue t k n) (cellDue t k (suc n)) e .0))
+      (eq-or-lt-of-le {n = m} {m = suc n} h)
+
+  pub row-fails : (m n : ℕ) → m ≤ n → rowDue t k m ≡ false → rowDue t k n ≡ false
+  unfolding rowDue
+  row-fails m zero h e = let z : m ≡ 0 = omega arith in ap (rowDue t k) (sym z) ∙ e
+  row-fails m (suc n) h e = ⊎-elim
+      (λ (q : m ≡ suc n). ap (rowDue t k) (sym q) ∙ e)
+      (λ (q : m < suc n). ap (λ (b : Bool). b && cellDue t k (suc n)) (row-fails m n (omega arith) e))
+      (eq-or-lt-of-le {n = m} {m = suc n} h)
+
+-- While the bits of a row's values after column m are gathered, no value passed exceeds them.
+pub record Gathered (t : List ℕ) (k m j bits : ℕ) : Type 0 where
+  pub low : m ≤ j
+  pub most : (i : ℕ) → m < i → i ≤ j → value t k i ≤ bits
 
 -- Two numbers do not exceed their bits together.
-or-most : (a b : ℕ) → (a ≤ bitOr a b) × (b ≤ bitOr a b)
+pub or-most : (a b : ℕ) → (a ≤ bitOr a b) × (b ≤ bitOr a b)
 or-most a b = (omega (arith, or-add-and a b, and-le-r a b), omega (arith, or-add-and a b, and-le-l a b))
 
-module _ (t : List ℕ) (k n : ℕ) where
-  pub gathered-start : Gathered t k k 0
-  gathered-start = record { low = omega arith; most = λ i l u. absurd (omega arith) }
+module _ (t : List ℕ) (k m : ℕ) where
+  pub gathered-start : (bits : ℕ) → Gathered t k m m bits
+  gathered-start bits = record { low = omega arith; most = λ i l u. absurd (omega arith) }
 
-  pub gathered-next : (j bits v : ℕ) → Gathered t k j bits → v ≡ value t k (j + 1) → Gathered t k (j + 1) (bitOr bits v)
-  gathered-next j bits v g e =
+  pub gathered-next : (j more bits bits′ v : ℕ) → more ≡ j + 1 → Gathered t k m j bits → v ≡ value t k more → bits ≤ bits′ → v ≤ bits′ → Gathered t k m more bits′
+  gathered-next j more bits bits′ v n g e old new =
       record {
         low = omega (arith, g .low);
         most = λ i l u. ⊎-elim
-            (λ (q : i ≡ j + 1). omega (arith, ap (value t k) q, or-most bits v .1))
-            (λ (q : i < j + 1). omega (arith, g .most i l (omega arith), or-most bits v .0))
-            (eq-or-lt-of-le {n = i} {m = j + 1} u);
+            (λ (q : i ≡ more). omega (arith, ap (value t k) q))
+            (λ (q : i < more). omega (arith, g .most i l (omega arith)))
+            (eq-or-lt-of-le {n = i} {m = more} u);
       }
 
-  pub gathered-done : (j bits m : ℕ) → n ≤ j → Gathered t k j bits → bits ≤ maxLoss → m ≡ min k n → DueFrom t k n m
-  gathered-done j bits m h g low e =
-      record { most = omega arith; rest = row-skips t k m n (omega arith) (λ i l u. low-due t k i (omega arith) (omega (arith, g .most i (omega arith) (omega arith)))) }
+-- Both halves of the values where no mark is due were passed.
+module _ (t : List ℕ) (k n : ℕ) where
+  pub gathered-done : (m half j bits : ℕ) → m ≡ min k n → m + half ≤ j → n ≤ j + half → Gathered t k m j bits → Gathered t k (m + half) (j + half) bits → bits ≤ maxLoss → DueFrom t k n m
+  gathered-done m half j bits e h all near far low =
+      record {
+        most = omega arith;
+        rest = row-skips t k m n (omega arith) (λ i l u. low-due t k i (omega arith) (omega (arith, by-half i l u (decLe i j))));
+      }
+    where
+      by-half : (i : ℕ) → m < i → i ≤ n → Dec (i ≤ j) → value t k i ≤ bits
+      by-half i l u (yes q) = near .most i l q
+      by-half i l u (no q) = far .most i (omega arith) (omega arith)
 
   pub all-unsure : DueFrom t k n n
   all-unsure = record { most = omega arith; rest = refl }
+
+-- While the bits that the marks of a row have in common are gathered, they are those of the mark just where each value passed is as is due.
+pub record Common (t : List ℕ) (k j bits : ℕ) : Type 0 where
+  pub most : bits ≤ mark
+  pub is : rowDue t k j ≡ eqb bits mark
+
+module _ (t : List ℕ) (k : ℕ) where
+  pub common-start : Common t k 0 mark
+  common-start = record { most = omega arith; is = row-none t k ∙ sym (eq-eqb mark mark refl) }
+
+  pub common-next : (j bits v : ℕ) → j < k → v ≤ mark → v ≡ value t k (j + 1) → Common t k j bits → Common t k (j + 1) (bitAnd bits v)
+  unfolding cellDue
+  common-next j bits v l u e c = record { most = omega (arith, and-le-l bits v, c .most); is = by-value (decLe mark v) (decLe mark bits) }
+    where
+      back : j + 1 - 1 ≡ j
+      back = omega arith
+
+      cell : cellDue t k (j + 1) ≡ eqb v mark
+      cell = rw (le-ltb k (j + 1) (omega arith), e) refl
+
+      by-value : Dec (mark ≤ v) → Dec (mark ≤ bits) → rowDue t k (j + 1) ≡ eqb (bitAnd bits v) mark
+      by-value (yes p) (yes q) =
+          let v-is : v ≡ mark = omega arith in
+          let bits-are : bits ≡ mark = omega (arith, c .most) in
+          row-back t k (j + 1) (omega arith) (cell ∙ eq-eqb v mark v-is) ∙ ap (rowDue t k) back ∙ c .is ∙ eq-eqb bits mark bits-are
+          ∙ sym (eq-eqb (bitAnd bits v) mark (rw (v-is, bits-are) (and-self mark)))
+      by-value (yes p) (no q) =
+          row-back t k (j + 1) (omega arith) (cell ∙ eq-eqb v mark (omega arith)) ∙ ap (rowDue t k) back ∙ c .is
+          ∙ ne-eqb bits mark (λ z. omega arith) ∙ sym (ne-eqb (bitAnd bits v) mark (λ z. omega (arith, and-le-l bits v)))
+      by-value (no p) d =
+          row-stops t k (j + 1) (omega arith) (cell ∙ ne-eqb v mark (λ z. omega arith)) ∙ sym (ne-eqb (bitAnd bits v) mark (λ z. omega (arith, and-le-r bits v)))
 
 module _ (t : List ℕ) (n : ℕ) where
   pub rows-none : rowsDue t n 0 ≡ true

@@ -5,7 +5,7 @@
 ghost use mathlib.Core.Path.{_≡_};
 ghost use mathlib.Core.Bool.{true};
 ghost use mathlib.Core.List.{[], _∷_, _++_};
-ghost use Prim.Native.Nat.{_+_, _≤_, _<_};
+ghost use Prim.Native.Nat.{_+_, _-_, _≤_, _<_, min};
 ghost use lib.ListN.{length};
 ghost use Rattle.path.specs.Refusal.{refusalOf};
 ghost use Rattle.select.specs.Penalty.{validPenalty};
@@ -14,7 +14,8 @@ ghost use Rattle.signal.specs.Inner.{PathWritten};
 ghost use Rattle.stream.specs.Table.{maxRows, tableLen, value, cellDue, rowDue, columnsDue, nextValue, withColumn};
 ghost use Rattle.stream.specs.Extend.{tableChecks, extendChecks, columnPath, streamBuffers, extendOutcome, extendedTo, extendOf};
 ghost use Rattle.stream.specs.SplitFrom.{splitFromChecks, segmentBuffers, splitFromOutcome, splitFromOf};
-ghost use Rattle.stream.specs.Inner.{CellIn, RowIn, DueFrom, SumsFrom, LeastSum, FirstStart, LastFrom, LastIs};
+ghost use Rattle.stream.specs.Inner.{CellIn, RowIn, DueFrom, sumAt, SumIn, SumsFrom, leastOfFour, BestFrom, LeastSum};
+ghost use Rattle.stream.specs.Inner.{FirstStart, LastFrom, LastIs};
 ghost use Rattle.stream.specs.Inner.{NextFrom, ColumnFrom, ColumnRead, PathFrom, ExtendFrom, extended};
 ghost use Rattle.stream.specs.Inner.{CutFrom, CutIs, SegmentsAre};
 use layout::get_u64;
@@ -56,6 +57,12 @@ struct LastSegment {
     own: u64,
 }
 
+// The best sum of the starts after `from` samples and later ones.
+struct Searched {
+    from: usize,
+    best: u64,
+}
+
 // The table's value of k + 1 segments over the first j samples.
 fn value_at(table: &[u8], k: usize, j: usize) -> u64
     requires { ⌜ CellIn (now table) k j ⌝ }
@@ -77,18 +84,36 @@ fn cell_due(table: &[u8], k: usize, j: usize) -> bool
 }
 
 // How far the first n columns of row k have to be looked at one by one: where no mark is due not at all, if the bits of all these values
-// together make no number above 2^44. With nothing decided on the way, several values are taken at a time.
+// together make no number above 2^44. With nothing decided on the way, several values are taken at a time, from both halves of the row.
 fn unsure_to(table: &[u8], k: usize, n: usize) -> usize
     requires { ⌜ RowIn (now table) k n ⌝ }
     ensures { λ r. ⌜ DueFrom (now (table .entry)) k n r ⌝ }
 {
+    let marks = smaller(k, n);
+    let half = (n - marks) / 2;
+    let middle = n - half;
     let mut bits: u64 = 0;
-    let mut j = k;
-    while j < n {
+    let mut j = marks;
+    while j < middle {
         j += 1;
-        bits = bits | value_at(table, k, j);
+        bits = bits | (value_at(table, k, j) | value_at(table, k, j + half));
     }
-    if bits <= MAX_LOSS { smaller(k, n) } else { n }
+    if bits <= MAX_LOSS { marks } else { n }
+}
+
+// Whether marks stand in the first m columns of row k, where they are due. The bits that these values have in common are those of the
+// mark just where each of them is the mark, so that again nothing is decided on the way.
+fn marks_due(table: &[u8], k: usize, m: usize) -> bool
+    requires { ⌜ RowIn (now table) k m × (m ≤ k) ⌝ }
+    ensures { λ r. ⌜ r ≡ rowDue (now (table .entry)) k m ⌝ }
+{
+    let mut common = MARK;
+    let mut j = 0;
+    while j < m {
+        j += 1;
+        common = common & value_at(table, k, j);
+    }
+    common == MARK
 }
 
 // Whether the values of row k in the first n columns are as is due.
@@ -96,8 +121,12 @@ fn row_due(table: &[u8], k: usize, n: usize) -> bool
     requires { ⌜ RowIn (now table) k n ⌝ }
     ensures { λ r. ⌜ r ≡ rowDue (now (table .entry)) k n ⌝ }
 {
+    let marks = smaller(k, n);
+    if !marks_due(table, k, marks) {
+        return false;
+    }
     let mut j = unsure_to(table, k, n);
-    while 0 < j {
+    while marks < j {
         if !cell_due(table, k, j) {
             return false;
         }
@@ -211,24 +240,63 @@ fn split_from_refusal(
     0
 }
 
-// The least sum of a value of k + 1 segments before the last one, which ends at to, and that one's own loss. The search goes from the
-// latest start down. It ends where the own loss alone is not below the best sum so far: an earlier start's is no smaller.
+// The lesser of two sums.
+fn lesser(a: u64, b: u64) -> u64
+    ensures { λ r. ⌜ r ≡ min a b ⌝ }
+{
+    if a < b { a } else { b }
+}
+
+// The sum for a start after i samples: the value of k + 1 segments before it, and the last segment's own loss.
+fn sum_at(table: &[u8], owns: &[u64], k: usize, i: usize) -> u64
+    requires { ⌜ SumIn (now table) (now owns) k i ⌝ }
+    ensures { λ r. ⌜ r ≡ sumAt (now (table .entry)) (now (owns .entry)) k i ⌝ }
+{
+    value_at(table, k, i) + owns[i]
+}
+
+// The least sum of the four starts before i. The lesser of each two comes first, so that few steps wait for each other. `to` is there for
+// the contract alone.
+fn least_of_four(table: &[u8], owns: &[u64], k: usize, to: usize, i: usize) -> u64
+    requires { ⌜ SumsFrom (now table) (now owns) k to × ((k + 4 < i) × (i ≤ to)) ⌝ }
+    ensures { λ r. ⌜ r ≡ leastOfFour (now (table .entry)) (now (owns .entry)) k i ⌝ }
+{
+    let near = lesser(sum_at(table, owns, k, i - 1), sum_at(table, owns, k, i - 2));
+    let far = lesser(sum_at(table, owns, k, i - 3), sum_at(table, owns, k, i - 4));
+    lesser(near, far)
+}
+
+// The search for the least sum from the latest start down, eight starts at a time, as far as there are eight. It ends where the own loss
+// alone is not below the best sum so far: an earlier start's is no smaller, so that the best sum is that of all starts.
+fn by_eights(table: &[u8], owns: &[u64], k: usize, to: usize) -> Searched
+    requires { ⌜ SumsFrom (now table) (now owns) k to ⌝ }
+    ensures { λ r. ⌜ BestFrom (now (table .entry)) (now (owns .entry)) k to (r .from) (r .best) ⌝ }
+{
+    let mut i = to - 1;
+    let mut best = sum_at(table, owns, k, i);
+    while k + 8 < i {
+        if best <= owns[i - 1] {
+            return Searched { from: k + 1, best };
+        }
+        let near = least_of_four(table, owns, k, to, i);
+        let far = least_of_four(table, owns, k, to, i - 4);
+        best = lesser(best, lesser(near, far));
+        i -= 8;
+    }
+    Searched { from: i, best }
+}
+
+// The least sum of a value of k + 1 segments before the last one, which ends at to, and that one's own loss.
 fn least_sum(table: &[u8], owns: &[u64], k: usize, to: usize) -> u64
     requires { ⌜ SumsFrom (now table) (now owns) k to ⌝ }
     ensures { λ r. ⌜ LeastSum (now (table .entry)) (now (owns .entry)) k to r ⌝ }
 {
-    let mut i = to - 1;
-    let mut best = value_at(table, k, i) + owns[i];
+    let found = by_eights(table, owns, k, to);
+    let mut i = found.from;
+    let mut best = found.best;
     while k + 1 < i {
         i -= 1;
-        let own = owns[i];
-        if best <= own {
-            return best;
-        }
-        let sum = value_at(table, k, i) + own;
-        if sum < best {
-            best = sum;
-        }
+        best = lesser(best, sum_at(table, owns, k, i));
     }
     best
 }
@@ -239,7 +307,7 @@ fn first_start(table: &[u8], owns: &[u64], k: usize, to: usize, least: u64) -> u
     ensures { λ r. ⌜ FirstStart (now (table .entry)) (now (owns .entry)) k to least r ⌝ }
 {
     let mut i = k + 1;
-    while value_at(table, k, i) + owns[i] != least {
+    while sum_at(table, owns, k, i) != least {
         i += 1;
     }
     i
