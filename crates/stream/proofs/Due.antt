@@ -120,9 +120,8 @@ module _ (t : List ℕ) (k : ℕ) where
       (eq-or-lt-of-le {n = m} {m = suc n} h)
 
 -- While the bits of a row's values after column m are gathered, no value passed exceeds them.
-pub record Gathered (t : List ℕ) (k m j bits : ℕ) : Type 0 where
-  pub low : m ≤ j
-  pub most : (i : ℕ) → m < i → i ≤ j → value t k i ≤ bits
+abbrev pub Gathered : List ℕ → ℕ → ℕ → ℕ → ℕ → Type 0
+Gathered t k m j bits = (i : ℕ) → m < i → i ≤ j → value t k i ≤ bits
 
 -- Two numbers do not exceed their bits together.
 pub or-most : (a b : ℕ) → (a ≤ bitOr a b) × (b ≤ bitOr a b)
@@ -130,17 +129,13 @@ or-most a b = (omega (arith, or-add-and a b, and-le-r a b), omega (arith, or-add
 
 module _ (t : List ℕ) (k m : ℕ) where
   pub gathered-start : (bits : ℕ) → Gathered t k m m bits
-  gathered-start bits = record { low = omega arith; most = λ i l u. absurd (omega arith) }
+  gathered-start bits i l u = absurd (omega arith)
 
   pub gathered-next : (j more bits bits′ v : ℕ) → more ≡ j + 1 → Gathered t k m j bits → v ≡ value t k more → bits ≤ bits′ → v ≤ bits′ → Gathered t k m more bits′
-  gathered-next j more bits bits′ v n g e old new =
-      record {
-        low = omega (arith, g .low);
-        most = λ i l u. ⊎-elim
-            (λ (q : i ≡ more). omega (arith, ap (value t k) q))
-            (λ (q : i < more). omega (arith, g .most i l (omega arith)))
-            (eq-or-lt-of-le {n = i} {m = more} u);
-      }
+  gathered-next j more bits bits′ v n g e old new i l u = ⊎-elim
+      (λ (q : i ≡ more). omega (arith, ap (value t k) q))
+      (λ (q : i < more). omega (arith, g i l (omega arith)))
+      (eq-or-lt-of-le {n = i} {m = more} u)
 
 -- Both halves of the values where no mark is due were passed.
 module _ (t : List ℕ) (k n : ℕ) where
@@ -152,8 +147,8 @@ module _ (t : List ℕ) (k n : ℕ) where
       }
     where
       by-half : (i : ℕ) → m < i → i ≤ n → Dec (i ≤ j) → value t k i ≤ bits
-      by-half i l u (yes q) = near .most i l q
-      by-half i l u (no q) = far .most i (omega arith) (omega arith)
+      by-half i l u (yes q) = near i l q
+      by-half i l u (no q) = far i (omega arith) (omega arith)
 
   pub all-unsure : DueFrom t k n n
   all-unsure = record { most = omega arith; rest = refl }
