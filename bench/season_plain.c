@@ -26,12 +26,15 @@ void plain_extend(struct plain_table *t, int16_t sample)
     }
 }
 
-// Four rows at a time, the fastest of the ways that were tried.
+// Four rows at a time, and in turns from the first ones on or from the last: what was read last is then at hand. The fastest of the ways
+// that were tried with these flags of the compiler.
 uint64_t plain_look(const struct plain_table *t, size_t n)
 {
     uint64_t bits = 0;
-    for (size_t k = 0; k < TABLE_ROWS; k += 4)
+    for (size_t i = 0; i < TABLE_ROWS; i += 4) {
+        size_t k = n % 2 == 0 ? i : TABLE_ROWS - 4 - i;
         for (size_t j = 0; j < n; j++)
             bits |= t->least[k][j] | t->least[k + 1][j] | t->least[k + 2][j] | t->least[k + 3][j];
+    }
     return bits;
 }
