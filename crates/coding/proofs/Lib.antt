@@ -1,0 +1,7 @@
+pub mod Strings
+pub mod Cutting
+pub mod Calls
+pub mod Encoding
+pub mod Small
+pub mod Fitting
+pub mod Claims

@@ -1,0 +1,43 @@
+-- What the functions that read and write lists together ask for and leave. A reader of the calls need not believe anything that
+-- stands here.
+use mathlib.Core.Path.{_≡_}
+use mathlib.Core.Bool.{cond}
+use mathlib.Core.List.{List, _++_, map}
+use Prim.Native.Nat.{ℕ, _*_, _≤_}
+use lib.Dec.{eqb}
+use lib.IntN.{ℤ}
+use lib.ListN.{length, drop}
+use Rattle.layout.specs.Items.{itemsTo, bytesOf, signedOf, unsignedOf}
+
+-- What a string holds after a list of items of k bytes was encoded to it, by the refusal of the call.
+abbrev pub encodedTo : ℕ → ℕ → List ℕ → List ℕ → List ℕ
+encodedTo refusal k bytes items = cond (eqb refusal 0) (bytesOf k items ++ drop (k * length items) bytes) bytes
+
+-- The same of signed items.
+abbrev pub encodedSigned : ℕ → List ℕ → List ℤ → List ℕ
+encodedSigned refusal bytes items = cond (eqb refusal 0) (bytesOf 2 (map unsignedOf items) ++ drop (2 * length items) bytes) bytes
+
+-- Two strings have a and b items, of j and of k bytes.
+pub record Holds (j k a b : ℕ) (x y : List ℕ) : Type 0 where
+  pub first-has : j * a ≤ length x
+  pub second-has : k * b ≤ length y
+
+-- The sizes and losses that were read.
+pub record ModelsRead (sizes losses s l : List ℕ) (a b : ℕ) : Type 0 where
+  pub sizes-are : s ≡ itemsTo 2 sizes a
+  pub losses-are : l ≡ itemsTo 8 losses b
+
+-- The strings of sizes and losses that were written.
+pub record ModelsEncoded (refusal : ℕ) (sizes losses s l sizes' losses' : List ℕ) : Type 0 where
+  pub sizes-are : sizes' ≡ encodedTo refusal 2 sizes s
+  pub losses-are : losses' ≡ encodedTo refusal 8 losses l
+
+-- The starts and levels that were read.
+pub record SegmentsRead (starts levels s : List ℕ) (l : List ℤ) (a b : ℕ) : Type 0 where
+  pub starts-are : s ≡ itemsTo 2 starts a
+  pub levels-are : l ≡ map signedOf (itemsTo 2 levels b)
+
+-- The strings of starts and levels that were written.
+pub record SegmentsEncoded (refusal : ℕ) (starts levels s : List ℕ) (l : List ℤ) (starts' levels' : List ℕ) : Type 0 where
+  pub starts-are : starts' ≡ encodedTo refusal 2 starts s
+  pub levels-are : levels' ≡ encodedSigned refusal levels l
