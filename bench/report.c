@@ -84,8 +84,9 @@ static double time_split(const int *samples)
         bytes[2 * i + 1] = 0;
     }
     clock_gettime(CLOCK_THREAD_CPUTIME_ID, &a);
-    struct foldwig_split_result r = foldwig_split(bytes, sizeof bytes, LIMIT, 1, 2, starts, sizeof starts, levels, sizeof levels, sizes,
-                                                  sizeof sizes, losses, sizeof losses, scratch, sizeof scratch);
+    struct foldwig_split_result r = foldwig_split(bytes, sizeof bytes, LIMIT, 1, 1, 2, starts, sizeof starts, levels,
+                                                  sizeof levels, sizes, sizeof sizes, losses, sizeof losses, scratch,
+                                                  sizeof scratch);
     clock_gettime(CLOCK_THREAD_CPUTIME_ID, &b);
     if (r.refusal != 0)
         exit(2);

@@ -4,9 +4,8 @@
 // and each turn goes through all signals; a time is the least CPU time of a season, or of a call, over all turns. Before that it
 // compares tables, paths and segmentations, and ends with status 1 where they differ.
 // Usage: season time [TURNS]     prints the times, a line for each signal
-//        season tables FILE...   prints tables of such times, and ends with status 1 where a season is slower than three fresh calls
-//                                and should not be. With several files, as of programs with the calls at different places in memory,
-//                                a time is the mean over them.
+//        season tables FILE...   prints tables of such times. With several files, as of programs with the calls at different places
+//                                in memory, a time is the mean over them.
 #include "season_plain.h"
 #include "signals.h"
 #include "tables.h"
@@ -20,11 +19,8 @@ enum { LIMIT = FOLDWIG_MAX_STREAM_SEGMENTS };
 
 _Static_assert(sizeof(((struct plain_table *)0)->least) == FOLDWIG_TABLE_LEN, "the plain table is as long as the library's");
 
-// A season should take no longer than so many fresh calls.
+// A season is compared with so many fresh calls. Where it is slower is listed.
 enum { FRESH_CALLS = 3 };
-
-// The kinds where it may: on these a fresh call makes little search or none, while each extend still looks through the table so far.
-static const enum kind may_be_slower[] = {CONSTANT, BUSY_THEN_QUIET};
 
 enum job { PLAIN_SEASON, PLAIN_LOOK, SEASON, FRESH_PATH, SPLIT_FROM, FRESH_SPLIT, JOBS };
 
@@ -84,7 +80,7 @@ static void run_season(const struct signal *s, uint8_t *table, struct path *path
 static void run_fresh_path(const struct signal *s, uint8_t *scratch, struct path *path)
 {
     struct foldwig_signal_path_result r = foldwig_signal_path(
-        (const uint8_t *)s->samples, s->n * sizeof *s->samples, LIMIT, (uint8_t *)path->sizes, sizeof path->sizes,
+        (const uint8_t *)s->samples, s->n * sizeof *s->samples, LIMIT, 1, (uint8_t *)path->sizes, sizeof path->sizes,
         (uint8_t *)path->losses, sizeof path->losses, scratch, FOLDWIG_SCRATCH_LEN);
     path->refusal = r.refusal;
     path->entries = r.entries;
@@ -103,7 +99,7 @@ static void run_split_from(const struct signal *s, const uint8_t *table, struct 
 static void run_fresh_split(const struct signal *s, uint8_t *scratch, struct path *path, struct segmentation *to)
 {
     struct foldwig_split_result r = foldwig_split(
-        (const uint8_t *)s->samples, s->n * sizeof *s->samples, LIMIT, P, Q, (uint8_t *)to->starts, sizeof to->starts,
+        (const uint8_t *)s->samples, s->n * sizeof *s->samples, LIMIT, 1, P, Q, (uint8_t *)to->starts, sizeof to->starts,
         (uint8_t *)to->levels, sizeof to->levels, (uint8_t *)path->sizes, sizeof path->sizes, (uint8_t *)path->losses,
         sizeof path->losses, scratch, FOLDWIG_SCRATCH_LEN);
     to->refusal = r.refusal;
@@ -232,14 +228,6 @@ static void print_splits(double least[][JOBS])
     }
 }
 
-static bool is_excepted(enum kind kind)
-{
-    for (size_t i = 0; i < sizeof may_be_slower / sizeof may_be_slower[0]; i++)
-        if (may_be_slower[i] == kind)
-            return true;
-    return false;
-}
-
 // Names a kind and those of its draws where a season is slower than three fresh calls, if there are any. Answers how many.
 static int list_slower(enum kind kind, double draws[][JOBS])
 {
@@ -251,24 +239,19 @@ static int list_slower(enum kind kind, double draws[][JOBS])
             printf(" %u", i + 1);
         }
     if (slower > 0)
-        printf(" of %u%s\n", draws_of(kind), is_excepted(kind) ? "" : ", NOT wanted");
+        printf(" of %u\n", draws_of(kind));
     return slower;
 }
 
-// Lists the kinds and draws where a season is slower than three fresh calls. Says whether it may be slower on all of them.
-static bool print_slower(double least[][JOBS])
+// Lists the kinds and draws where a season is slower than three fresh calls.
+static void print_slower(double least[][JOBS])
 {
-    bool reached = true;
     int all = 0;
     puts("\nA season is slower than three fresh calls on:\n");
-    for (enum kind kind = 0; kind < KINDS; least += draws_of(kind), kind++) {
-        int slower = list_slower(kind, least);
-        reached = reached && (slower == 0 || is_excepted(kind));
-        all += slower;
-    }
+    for (enum kind kind = 0; kind < KINDS; least += draws_of(kind), kind++)
+        all += list_slower(kind, least);
     if (all == 0)
         puts("- none");
-    return reached;
 }
 
 // Least times before the first turn.
@@ -324,9 +307,8 @@ static int print_tables(char **files, int parts, int count)
     print_look(times, count);
     printf("\nOne split at the penalty %d / %d:\n\n", P, Q);
     print_splits(times);
-    bool reached = print_slower(times);
-    printf("\n%s\n", reached ? "All that is wanted is reached." : "NOT all that is wanted is reached.");
-    return reached ? 0 : 1;
+    print_slower(times);
+    return 0;
 }
 
 int main(int argc, char **argv)

@@ -42,8 +42,8 @@ struct foldwig_path_result compare_append(uint64_t entries, uint64_t size, uint6
 struct foldwig_path_result compare_builds(void);
 struct foldwig_select_result compare_select(uint64_t entries, uint64_t p, uint64_t q);
 struct foldwig_breakpoints_result compare_breakpoints(uint64_t entries);
-struct foldwig_signal_path_result compare_signal_path(uint64_t max_segments);
-struct foldwig_split_result compare_split(uint64_t max_segments, uint64_t p, uint64_t q);
+struct foldwig_signal_path_result compare_signal_path(uint64_t max_segments, uint64_t min_segment_len);
+struct foldwig_split_result compare_split(uint64_t max_segments, uint64_t min_segment_len, uint64_t p, uint64_t q);
 struct foldwig_extend_result compare_extend(int16_t sample, uint64_t max_segments);
 struct foldwig_split_from_result compare_split_from(uint64_t max_segments, uint64_t p, uint64_t q);
 

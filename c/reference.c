@@ -7,6 +7,7 @@ enum { MAX_SAMPLES = 512, MAX_SEGMENTS = 32, MAX_MODELS = 4096, MAX_TRIED = 12, 
 static const uint64_t TWO_44 = (uint64_t)1 << 44;
 
 size_t reference_tries_up_to = 9;
+unsigned long reference_uneven = 0;
 
 // ---- Items of byte strings
 
@@ -606,8 +607,17 @@ static int earlier(const uint16_t *a, const uint16_t *b, size_t count)
     return 0;
 }
 
-// Tries all segmentations of a short signal into up to so many segments.
-static void try_all(size_t n, size_t largest)
+// Whether every segment of a cutting has so many samples.
+static int long_enough(const uint16_t *starts, size_t count, size_t n, size_t min_segment_len)
+{
+    for (size_t s = 0; s < count; s++)
+        if ((s + 1 < count ? starts[s + 1] : n) - starts[s] < min_segment_len)
+            return 0;
+    return 1;
+}
+
+// Tries all segmentations of a short signal into up to so many segments of so many samples or more.
+static void try_all(size_t n, size_t largest, size_t min_segment_len)
 {
     static int64_t loss[MAX_TRIED][MAX_TRIED];
     for (size_t i = 0; i < n; i++)
@@ -621,7 +631,7 @@ static void try_all(size_t n, size_t largest)
         int64_t sum = 0;
         for (size_t s = 0; s < count; s++)
             sum += loss[starts[s]][s + 1 < count ? (size_t)starts[s + 1] - 1 : n - 1];
-        if (count > largest || sum > least_loss[count])
+        if (count > largest || sum > least_loss[count] || !long_enough(starts, count, n, min_segment_len))
             continue;
         if (sum < least_loss[count] || earlier(starts, given_starts[count], count)) {
             least_loss[count] = sum;
@@ -648,11 +658,11 @@ static void fill_segment_losses(size_t n)
     }
 }
 
-// Finds the start of the last of k segments that end at a place, the earliest of the best ones.
-static void fill_place(size_t k, size_t end)
+// Finds the start of the last of k segments of so many samples or more that end at a place, the earliest of the best ones.
+static void fill_place(size_t k, size_t end, size_t min_segment_len)
 {
     least_to[k][end] = INT64_MAX;
-    for (size_t start = k - 1; start <= end; start++) {
+    for (size_t start = (k - 1) * min_segment_len; start + min_segment_len <= end + 1; start++) {
         int64_t sum = least_to[k - 1][start - 1] + segment_loss[start][end];
         if (sum < least_to[k][end] || (FAULT == 5 && sum == least_to[k][end])) {
             least_to[k][end] = sum;
@@ -662,7 +672,7 @@ static void fill_place(size_t k, size_t end)
 }
 
 // Finds the least losses and the starts of a signal of any length by dynamic programming.
-static void programme(size_t n, size_t largest)
+static void programme(size_t n, size_t largest, size_t min_segment_len)
 {
     fill_segment_losses(n);
     for (size_t end = 0; end < n; end++) {
@@ -670,8 +680,8 @@ static void programme(size_t n, size_t largest)
         last_start[1][end] = 0;
     }
     for (size_t k = 2; k <= largest; k++)
-        for (size_t end = k - 1; end < n; end++)
-            fill_place(k, end);
+        for (size_t end = k * min_segment_len - 1; end < n; end++)
+            fill_place(k, end, min_segment_len);
     for (size_t k = 1; k <= largest; k++) {
         size_t end = n - 1;
         least_loss[k] = least_to[k][n - 1];
@@ -742,14 +752,17 @@ static void cut_greedily(size_t n, size_t largest)
 // ---- Calls on signals
 
 // The causes that both calls on signals have.
-static unsigned signal_causes(struct bytes samples, uint64_t max_segments, struct bytes path_sizes, struct bytes path_losses,
-                              struct bytes scratch)
+static unsigned signal_causes(struct bytes samples, uint64_t max_segments, uint64_t min_segment_len, struct bytes path_sizes,
+                              struct bytes path_losses, struct bytes scratch)
 {
     size_t n = samples.len / 2;
     uint64_t largest = max_segments < n ? max_segments : n;
     size_t most = FAULT == 19 ? MAX_SAMPLES - 1 : MAX_SAMPLES;
     unsigned causes = cause_if(11, odd_length(samples, 2) || odd_length(path_sizes, 2) || odd_length(path_losses, 8));
     causes |= cause_if(1, n == 0) | cause_if(2, n > most) | cause_if(3, max_segments == 0 || max_segments > 32);
+    causes |= cause_if(13, min_segment_len == 0 || min_segment_len > (FAULT == 69 && n > 1 ? n - 1 : n));
+    if (FAULT == 74 && min_segment_len > 1)
+        largest = smaller(n / (size_t)min_segment_len, (size_t)largest);
     return causes | cause_if(9, places(path_sizes, path_losses) < largest || scratch.len < 31744);
 }
 
@@ -759,22 +772,42 @@ static void read_samples(struct bytes samples)
         samples_of[i] = get_signed(samples, i);
 }
 
-// Segments a signal and makes its models, of which it answers the number.
-static size_t make_models(struct bytes samples, uint64_t max_segments)
+// Whether a loss is above that of the size before, and a later one below all before it.
+static int uneven(size_t largest)
 {
-    size_t n = samples.len / 2;
-    size_t largest = smaller(n, (size_t)max_segments);
+    int risen = 0;
+    int64_t least = INT64_MAX;
+    for (size_t k = 1; k <= largest; k++) {
+        risen |= k > 1 && least_loss[k] > least_loss[k - 1];
+        if (risen && least_loss[k] < least)
+            return 1;
+        if (least_loss[k] < least)
+            least = least_loss[k];
+    }
+    return 0;
+}
+
+// Segments a signal and makes its models, of which it answers the number.
+static size_t make_models(struct bytes samples, uint64_t max_segments, uint64_t min_segment_len)
+{
+    size_t n = samples.len / 2, largest;
+    if (FAULT == 68)
+        min_segment_len = 1;
+    if (FAULT == 73 && min_segment_len > 1)
+        min_segment_len--;
+    largest = smaller(n / (size_t)min_segment_len, (size_t)max_segments);
     read_samples(samples);
     if (FAULT == 20)
         cut_greedily(n, largest);
     else if (n <= reference_tries_up_to)
-        try_all(n, largest);
+        try_all(n, largest, (size_t)min_segment_len);
     else
-        programme(n, largest);
+        programme(n, largest, (size_t)min_segment_len);
     for (size_t k = 1; k <= largest; k++) {
         models[k - 1].size = k;
         models[k - 1].loss = (uint64_t)least_loss[k];
     }
+    reference_uneven += uneven(largest);
     return largest;
 }
 
@@ -792,19 +825,21 @@ static void clear_scratch(struct bytes scratch)
     memset(scratch.at, 0, FAULT == 13 ? 31744 : scratch.len);
 }
 
-struct foldwig_signal_path_result reference_signal_path(struct bytes samples, uint64_t max_segments, struct bytes path_sizes,
-                                                        struct bytes path_losses, struct bytes scratch, unsigned *causes)
+struct foldwig_signal_path_result reference_signal_path(struct bytes samples, uint64_t max_segments, uint64_t min_segment_len,
+                                                        struct bytes path_sizes, struct bytes path_losses, struct bytes scratch,
+                                                        unsigned *causes)
 {
-    static const int order[] = {1, 2, 3, 9, 0};
+    static const int right[] = {1, 2, 3, 13, 9, 0};
+    static const int length_first[] = {1, 2, 13, 3, 9, 0};
     struct foldwig_signal_path_result r = {0, 0};
     size_t largest;
-    *causes = signal_causes(samples, max_segments, path_sizes, path_losses, scratch);
-    r.refusal = first_of(*causes, order);
+    *causes = signal_causes(samples, max_segments, min_segment_len, path_sizes, path_losses, scratch);
+    r.refusal = first_of(*causes, FAULT == 72 ? length_first : right);
     if (r.refusal != 0)
         return r;
-    largest = make_models(samples, max_segments);
+    largest = make_models(samples, max_segments, min_segment_len);
     r.entries = signal_winners(largest);
-    put_path(path_sizes, path_losses, r.entries, largest);
+    put_path(path_sizes, path_losses, r.entries, FAULT == 71 ? largest : smaller(samples.len / 2, (size_t)max_segments));
     clear_scratch(scratch);
     return r;
 }
@@ -820,22 +855,23 @@ static void put_segments(struct bytes starts, struct bytes levels, size_t segmen
     }
 }
 
-struct foldwig_split_result reference_split(struct bytes samples, uint64_t max_segments, uint64_t p, uint64_t q,
-                                            struct bytes starts, struct bytes levels, struct bytes path_sizes,
+struct foldwig_split_result reference_split(struct bytes samples, uint64_t max_segments, uint64_t min_segment_len, uint64_t p,
+                                            uint64_t q, struct bytes starts, struct bytes levels, struct bytes path_sizes,
                                             struct bytes path_losses, struct bytes scratch, unsigned *causes)
 {
-    static const int right[] = {1, 2, 3, 4, 9, 0};
-    static const int wrong[] = {1, 2, 3, 9, 4, 0};
+    static const int right[] = {1, 2, 3, 13, 4, 9, 0};
+    static const int wrong[] = {1, 2, 3, 13, 9, 4, 0};
+    static const int penalty_first[] = {1, 2, 3, 4, 13, 9, 0};
     struct foldwig_split_result r = {0, 0, 0, 0};
     size_t n = samples.len / 2, largest;
     uint64_t needed = max_segments < n ? max_segments : n;
-    *causes = signal_causes(samples, max_segments, path_sizes, path_losses, scratch);
+    *causes = signal_causes(samples, max_segments, min_segment_len, path_sizes, path_losses, scratch);
     *causes |= cause_if(11, odd_length(starts, 2) || odd_length(levels, 2)) | cause_if(4, bad_penalty(p, q));
     *causes |= cause_if(9, FAULT != 22 && smaller(starts.len / 2, levels.len / 2) < needed);
-    r.refusal = first_of(*causes, FAULT == 9 ? wrong : right);
+    r.refusal = first_of(*causes, FAULT == 9 ? wrong : FAULT == 70 ? penalty_first : right);
     if (r.refusal != 0)
         return r;
-    largest = make_models(samples, max_segments);
+    largest = make_models(samples, max_segments, min_segment_len);
     r.segments = models[cheapest(models, largest, p, q)].size;
     if (FAULT == 22 && smaller(starts.len / 2, levels.len / 2) < r.segments) {
         r.refusal = 9;
@@ -844,7 +880,7 @@ struct foldwig_split_result reference_split(struct bytes samples, uint64_t max_s
     }
     r.entries = signal_winners(largest);
     r.loss = (uint64_t)loss_of_starts(r.segments, n);
-    put_path(path_sizes, path_losses, r.entries, largest);
+    put_path(path_sizes, path_losses, r.entries, (size_t)needed);
     put_segments(starts, levels, r.segments, n);
     clear_scratch(scratch);
     return r;

@@ -72,6 +72,13 @@
 //   65  a quadratic build finds a short buffer before a bad model
 //   66  a quadratic build finds too many models after a bad one
 //   67  a quadratic build needs room for its path only
+//   68  segments of any length count
+//   69  a least length that is that of the signal gets 13
+//   70  a bad penalty is found before a bad least length
+//   71  the zeros behind a path go no further than the sizes that occur
+//   72  a bad least length is found before a bad limit
+//   73  a segment may have one sample less than the least length
+//   74  room is asked for the sizes that occur only
 #ifndef REFERENCE_H
 #define REFERENCE_H
 
@@ -97,6 +104,10 @@ enum { SHORT_TABLE = FOLDWIG_REFUSALS, CAUSES };
 
 // Signals of up to this many samples are segmented by trying all segmentations, at most 12.
 extern size_t reference_tries_up_to;
+
+// How many calls on signals had least losses that rise with the size and fall again below all before. They do so only with a least
+// length above 1.
+extern unsigned long reference_uneven;
 
 // Item i of a byte string whose items have so many bytes, and the same with a sign, for two bytes.
 uint64_t get_item(struct bytes b, size_t width, size_t i);
@@ -129,10 +140,11 @@ struct foldwig_select_result reference_select(struct bytes sizes, struct bytes l
                                               unsigned *causes);
 struct foldwig_breakpoints_result reference_breakpoints(struct bytes sizes, struct bytes losses, uint64_t entries,
                                                         struct bytes numerators, struct bytes denominators, unsigned *causes);
-struct foldwig_signal_path_result reference_signal_path(struct bytes samples, uint64_t max_segments, struct bytes path_sizes,
-                                                        struct bytes path_losses, struct bytes scratch, unsigned *causes);
-struct foldwig_split_result reference_split(struct bytes samples, uint64_t max_segments, uint64_t p, uint64_t q,
-                                            struct bytes starts, struct bytes levels, struct bytes path_sizes,
+struct foldwig_signal_path_result reference_signal_path(struct bytes samples, uint64_t max_segments, uint64_t min_segment_len,
+                                                        struct bytes path_sizes, struct bytes path_losses, struct bytes scratch,
+                                                        unsigned *causes);
+struct foldwig_split_result reference_split(struct bytes samples, uint64_t max_segments, uint64_t min_segment_len, uint64_t p,
+                                            uint64_t q, struct bytes starts, struct bytes levels, struct bytes path_sizes,
                                             struct bytes path_losses, struct bytes scratch, unsigned *causes);
 struct foldwig_extend_result reference_extend(struct bytes samples, int16_t sample, uint64_t max_segments, struct bytes table,
                                               struct bytes path_sizes, struct bytes path_losses, unsigned *causes);

@@ -112,12 +112,13 @@ static uint64_t call_breakpoints_entries(void)
 
 static uint64_t call_signal_path(void)
 {
-    return foldwig_signal_path(samples, sizeof samples, limit, path_sizes, 64, path_losses, 256, scratch, sizeof scratch).refusal;
+    return foldwig_signal_path(samples, sizeof samples, limit, 1, path_sizes, 64, path_losses, 256, scratch, sizeof scratch)
+        .refusal;
 }
 
 static uint64_t call_split(void)
 {
-    return foldwig_split(samples, sizeof samples, limit, 1, 1, starts, sizeof starts, levels, sizeof levels, path_sizes, 64,
+    return foldwig_split(samples, sizeof samples, limit, 1, 1, 1, starts, sizeof starts, levels, sizeof levels, path_sizes, 64,
                          path_losses, 256, scratch, sizeof scratch)
         .refusal;
 }

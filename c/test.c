@@ -300,8 +300,16 @@ static size_t scratch_length(void)
     return one_in(40) ? FOLDWIG_SCRATCH_LEN - 1 - below(100) : FOLDWIG_SCRATCH_LEN + (one_in(3) ? below(200) : 0);
 }
 
+// A least length for n samples: mostly one that is taken, often 1.
+static uint64_t some_min_segment_len(size_t n)
+{
+    if (one_in(30))
+        return one_in(2) ? 0 : n + 1 + below(3);
+    return one_in(3) ? 1 : 1 + below(one_in(2) ? (n + 3) / 4 : n);
+}
+
 // Compares both calls on a signal that is drawn anew.
-static void compare_signal(size_t n, enum drawing drawing, uint64_t limit, uint64_t p, uint64_t q)
+static void compare_signal(size_t n, enum drawing drawing, uint64_t limit, uint64_t min_segment_len, uint64_t p, uint64_t q)
 {
     size_t needed = limit < n ? (size_t)limit : n;
     draw_samples(0, n, drawing);
@@ -311,13 +319,13 @@ static void compare_signal(size_t n, enum drawing drawing, uint64_t limit, uint6
     fresh(5, scratch_length());
     if (one_in(25))
         lengthen((int)below(5), 1 + 2 * below(4));
-    compare_split(limit, p, q);
+    compare_split(limit, min_segment_len, p, q);
     if (one_in(3))
         return;
     fresh(1, 2 * about(needed));
     fresh(2, 8 * about(needed));
     fresh(3, scratch_length());
-    compare_signal_path(limit);
+    compare_signal_path(limit, min_segment_len);
 }
 
 // Short signals: all their segmentations are tried in half of the turns.
@@ -327,7 +335,21 @@ static void short_signals(int turns)
         uint64_t p = one_in(4) ? some_number(TOP) : below(12), q = one_in(4) ? some_number(65535) : 1 + below(6);
         uint64_t limit = one_in(20) ? some_number(32) : 1 + below(10);
         reference_tries_up_to = turn % 2 == 0 ? 10 : 0;
-        compare_signal(1 + below(one_in(4) ? 10 : 8), (enum drawing)below(DRAWINGS), limit, p, q);
+        size_t n = 1 + below(one_in(4) ? 10 : 8);
+        compare_signal(n, (enum drawing)below(DRAWINGS), limit, some_min_segment_len(n), p, q);
+    }
+}
+
+// Short signals with every least length, up to two that are too large: all their segmentations are tried.
+static void every_min_segment_len(int turns)
+{
+    reference_tries_up_to = 10;
+    for (int turn = 0; turn < turns; turn++) {
+        size_t n = 1 + (size_t)turn % 10;
+        uint64_t p = below(6), q = 1 + below(6), limit = 1 + below(10);
+        enum drawing drawing = (enum drawing)below(DRAWINGS);
+        for (uint64_t len = 0; len <= n + 2; len++)
+            compare_signal(n, drawing, limit, len, p, q);
     }
 }
 
@@ -337,8 +359,29 @@ static void long_signals(int turns, size_t longest)
         size_t n = longest - below(one_in(2) ? 1 : longest / 2);
         uint64_t limit = one_in(2) ? 32 : 1 + below(32);
         uint64_t p = one_in(2) ? below(2000) : below(TOP), q = 1 + below(one_in(2) ? 9 : 65535);
-        compare_signal(n, (enum drawing)below(DRAWINGS), limit, p, q);
+        compare_signal(n, (enum drawing)below(DRAWINGS), limit, some_min_segment_len(n), p, q);
     }
+}
+
+// Signals of 45 to 510 samples, and the least length, with losses that rise with the size and fall again: three levels of which the
+// middle one has shoulders, so that its cheapest segment is longer than the least length and leaves too little beside it for one more.
+static void uneven_signals(int turns)
+{
+    static const int shape[15] = {19, 19, 19, 19, 19, 10, 0, 0, 0, 10, 19, 19, 19, 19, 19};
+    for (int turn = 0; turn < turns; turn++) {
+        size_t wide = 3 + (size_t)turn % 32, n = 15 * wide;
+        int high = 10 + (int)below(900), noise = 1 + (int)below((uint64_t)high / 5);
+        uint64_t limit = one_in(4) ? 1 + below(8) : 32, p = one_in(3) ? 0 : below(64 * (uint64_t)high), q = 1 + below(9);
+        struct bytes samples = fresh(0, 2 * n);
+        for (size_t i = 0; i < n; i++)
+            put_item(samples, 2, i, (uint64_t)(int64_t)(high * shape[i / wide] + (int)below((uint64_t)noise)));
+        for (int i = 1; i < 4; i++)
+            fresh(i, 2 * 32);
+        fresh(4, 8 * 32);
+        fresh(5, FOLDWIG_SCRATCH_LEN);
+        compare_split(limit, 3 * wide, p, q);
+    }
+    expect(reference_uneven >= (unsigned long)turns / 2, "losses that rise with the size and fall again");
 }
 
 // ---- Refusals: the causes of each call are brought together in all ways
@@ -448,7 +491,7 @@ static void meet_build(void)
 }
 
 // Both calls on a signal of n samples, with short buffers and odd lengths.
-static void meet_signal_of(size_t n, uint64_t limit, int room, int odd, int penalty)
+static void meet_signal_of(size_t n, uint64_t limit, uint64_t min_segment_len, int room, int odd, int penalty)
 {
     static const uint64_t ps[] = {1, 0, (uint64_t)1 << 44, ((uint64_t)1 << 44) + 1, 1, 1, UINT64_MAX};
     static const uint64_t qs[] = {1, 65535, 1, 1, 0, 65536, UINT64_MAX};
@@ -459,22 +502,23 @@ static void meet_signal_of(size_t n, uint64_t limit, int room, int odd, int pena
     fresh(4, 8 * (needed - (room == 4 ? lack : 0)));
     fresh(5, room == 5 ? FOLDWIG_SCRATCH_LEN - 1 : room == 6 ? 0 : room == 7 ? 40000 : FOLDWIG_SCRATCH_LEN);
     make_odd(odd, 5);
-    compare_split(limit, ps[penalty], qs[penalty]);
+    compare_split(limit, min_segment_len, ps[penalty], qs[penalty]);
     if (penalty > 0)
         return;
     move_buffer(3, 1);
     move_buffer(4, 2);
     move_buffer(5, 3);
-    compare_signal_path(limit);
+    compare_signal_path(limit, min_segment_len);
 }
 
 static void meet_signals(void)
 {
     static const size_t counts[] = {0, 1, 3, 512, 513, 700};
     static const uint64_t limits[] = {0, 1, 3, 32, 33, UINT64_MAX, (uint64_t)1 << 32};
-    for (int i = 0; i < 6 * 7 * 8 * 6 * 7; i++) {
-        int count = i % 6, limit = i / 6 % 7, room = i / 42 % 8, odd = i / 336 % 6, penalty = i / 2016;
-        meet_signal_of(counts[count], limits[limit], room, odd, penalty);
+    for (int i = 0; i < 6 * 7 * 8 * 6 * 7 * 4; i++) {
+        int count = i % 6, limit = i / 6 % 7, room = i / 42 % 8, odd = i / 336 % 6, penalty = i / 2016 % 7;
+        uint64_t lens[] = {1, 0, counts[count] + 1, counts[count]};
+        meet_signal_of(counts[count], limits[limit], lens[i / 14112], room, odd, penalty);
     }
 }
 
@@ -565,31 +609,46 @@ static void path_figures(void)
 
 static void split_figures(void)
 {
-    static const int a[] = {0, 1, 0}, b[] = {0, 2, 4}, c[] = {-3, -2}, d[] = {0, 1, 4, 0, 4};
+    static const int a[] = {0, 1, 0}, b[] = {0, 2, 4}, c[] = {-3, -2}, d[] = {0, 1, 4, 0, 4}, e[] = {0, 0, 0, 1, 1, 1};
+    static const int f[] = {19, 19, 19, 19, 19, 10, 0, 0, 0, 10, 19, 19, 19, 19, 19};
     static int half[513];
     struct foldwig_split_result r;
     put_samples(a, 3);
-    r = compare_split(3, 1, 4);
+    r = compare_split(3, 1, 1, 4);
     expect(r.segments == 3 && r.loss == 0 && bytes_are(1, "\1\0\2\0\3\0", 6) && bytes_are(2, "\0\0\1\0\0", 6), "0 1 0 at 1/4");
     put_samples(a, 3);
-    r = compare_split(2, 0, 1);
+    r = compare_split(2, 1, 0, 1);
     expect(r.segments == 1 && r.loss == 1 && r.entries == 1, "0 1 0 with the limit 2");
     put_samples(b, 3);
-    r = compare_split(3, 3, 1);
+    r = compare_split(3, 1, 3, 1);
     expect(r.segments == 2 && r.loss == 2 && bytes_are(1, "\1\0\2\0", 4) && bytes_are(2, "\0\0\3\0", 4), "0 2 4 at 3");
     put_samples(c, 2);
-    r = compare_split(1, 0, 1);
+    r = compare_split(1, 1, 0, 1);
     expect(r.loss == 1 && bytes_are(2, "\375\377", 2), "-3 -2 with the limit 1");
     put_samples(d, 5);
-    r = compare_split(3, 1, 1);
+    r = compare_split(3, 1, 1, 1);
     expect(r.segments == 3 && r.loss == 9 && bytes_are(1, "\1\0\3\0\4\0", 6), "0 1 4 0 4 with the limit 3");
     for (size_t i = 0; i < 513; i++)
         half[i] = i < 256 ? -32768 : 32767;
     put_samples(half, 512);
-    r = compare_split(1, 1, 1);
+    r = compare_split(1, 1, 1, 1);
     expect(r.segments == 1 && r.loss == UINT64_C(549739036928) && bytes_are(2, "\377\377", 2), "512 extremes as one segment");
     put_samples(half, 513);
-    expect(compare_split(1, 1, 1).refusal == 2, "513 samples");
+    expect(compare_split(1, 1, 1, 1).refusal == 2, "513 samples");
+    put_samples(e, 6);
+    r = compare_split(3, 2, 0, 1);
+    expect(r.segments == 2 && r.loss == 0 && r.entries == 2, "0 0 0 1 1 1 with the least length 2");
+    put_samples(e, 6);
+    r = compare_split(6, 4, 0, 1);
+    expect(r.segments == 1 && r.loss == 3 && r.entries == 1, "0 0 0 1 1 1 with the least length 4");
+    put_samples(e, 6);
+    expect(compare_split(3, 7, 0, 0).refusal == 13, "0 0 0 1 1 1 with the least length 7");
+    for (int last = 0; last < 2; last++) {
+        put_samples(f, 15);
+        r = compare_split(5, 3, last == 0 ? 0 : 6, 1);
+        expect(r.entries == 3 && bytes_are(3, "\1\0\3\0\5\0\0\0", 8), "the sizes where losses are 870, 685, 120, 123, 108");
+        expect(last == 0 ? r.segments == 5 && r.loss == 108 : r.segments == 3 && r.loss == 120, "a split there");
+    }
 }
 
 // One segment for each mean from a whole number to the next, by steps of so many parts of its length. A half has the lower level.
@@ -604,7 +663,7 @@ static void level_steps(size_t n, size_t step)
             for (size_t j = 0; j < n; j++)
                 samples[j] = lower[i] + (j < above);
             put_samples(samples, n);
-            expect(compare_split(1, 0, 1).segments == 1 && bytes_are(2, wanted, 2), "the level of one segment");
+            expect(compare_split(1, 1, 0, 1).segments == 1 && bytes_are(2, wanted, 2), "the level of one segment");
         }
 }
 
@@ -914,8 +973,10 @@ static void breakpoints_at_limit(void)
 
 static void signal_at_limit(void)
 {
-    meet_signal_of(512, 32, 0, 5, 0);
-    meet_signal_of(512, 32, 7, 5, 1);
+    meet_signal_of(512, 32, 1, 0, 5, 0);
+    meet_signal_of(512, 32, 1, 7, 5, 1);
+    meet_signal_of(512, 32, 16, 0, 5, 0);
+    meet_signal_of(512, 32, 512, 0, 5, 0);
 }
 
 static void small_stacks(void)
@@ -938,7 +999,7 @@ struct worker {
 
 static struct foldwig_split_result split_of(struct worker *w)
 {
-    return foldwig_split(w->samples, sizeof w->samples, 32, w->p, 1, w->starts, sizeof w->starts, w->levels, sizeof w->levels,
+    return foldwig_split(w->samples, sizeof w->samples, 32, 1, w->p, 1, w->starts, sizeof w->starts, w->levels, sizeof w->levels,
                          w->sizes, sizeof w->sizes, w->losses, sizeof w->losses, w->scratch, sizeof w->scratch);
 }
 
@@ -996,7 +1057,7 @@ static void wide_lengths(void)
            "a quadratic build of 8 GB without sizes");
     expect(foldwig_build_quadratic(a, len + 1, b, len, small, 16, small + 16, 16).refusal == 11,
            "a quadratic build of 8 GB and a byte");
-    expect(foldwig_signal_path(a, len, 4, small, 16, small + 16, 32, scratch, sizeof scratch).refusal == 2, "a signal of 8 GB");
+    expect(foldwig_signal_path(a, len, 4, 1, small, 16, small + 16, 32, scratch, sizeof scratch).refusal == 2, "a signal of 8 GB");
     expect(foldwig_select(a, len, b, len, ((uint64_t)1 << 32) + 1, 1, 1).refusal == 8, "a path of 2^32 + 1 entries");
     expect(foldwig_select(a, len, b, len, 0, 1, 1).refusal == 10, "an empty path in 8 GB");
     expect(foldwig_append(a, len, b, len, 0, 513, 7).entries == 1 && a[0] == 1 && a[1] == 2 && b[0] == 7, "an append in 8 GB");
@@ -1036,8 +1097,10 @@ int main(int argc, char **argv)
     meet_signals();
     meet_streams();
     short_signals(80000);
+    every_min_segment_len(4000);
     long_signals(3000, 40);
     long_signals(150, 512);
+    uneven_signals(160);
     full_paths();
     long_quadratic_figures();
     growing_signals(250, 40);

@@ -80,8 +80,8 @@ extern "C" {
 #define FOLDWIG_BUILD_QUADRATIC_ENTRIES_STACK 132000
 #define FOLDWIG_SELECT_ENTRIES_STACK 66000
 #define FOLDWIG_BREAKPOINTS_ENTRIES_STACK 66000
-#define FOLDWIG_SIGNAL_PATH_STACK 17000
-#define FOLDWIG_SPLIT_STACK 17000
+#define FOLDWIG_SIGNAL_PATH_STACK 25300
+#define FOLDWIG_SPLIT_STACK 25300
 #define FOLDWIG_EXTEND_STACK 7000
 #define FOLDWIG_SPLIT_FROM_STACK 6000
 
@@ -96,29 +96,30 @@ extern "C" {
 
 /* What the first field of an answer says. */
 enum foldwig_refusal {
-    FOLDWIG_ACCEPTED = 0,           /* The call was accepted. */
-    FOLDWIG_NOTHING_GIVEN = 1,      /* The signal has no samples, or the build has no models. */
-    FOLDWIG_TOO_MANY = 2,           /* The signal has more than 512 samples, or the build more than 4,096 models. */
-    FOLDWIG_BAD_LIMIT = 3,          /* max_segments is 0 or more than 32, or, with a table, more than 16. */
-    FOLDWIG_BAD_PENALTY = 4,        /* p is more than 2^44, or q is 0 or more than 65,535. */
-    FOLDWIG_BAD_MODEL = 5,          /* A new model is out of range, or its size or its loss is lacking. */
-    FOLDWIG_SIZE_NOT_LARGER = 6,    /* A new size is not larger than the last entry's. */
-    FOLDWIG_LOSS_LARGER = 7,        /* A new loss is larger than the last entry's. */
-    FOLDWIG_BAD_PATH = 8,           /* The path lent is out of range or out of order, or shorter than its number of entries. */
-    FOLDWIG_NO_ROOM = 9,            /* A buffer is too short. */
-    FOLDWIG_EMPTY_PATH = 10,        /* There is no entry to select. */
-    FOLDWIG_BAD_LENGTH = 11,        /* A byte string ends inside an item: its length is not divisible by the width. */
-    FOLDWIG_TABLE_DAMAGED = 12      /* In a sample's column a mark is missing, or a value is more than 2^44. */
+    FOLDWIG_ACCEPTED = 0,            /* The call was accepted. */
+    FOLDWIG_NOTHING_GIVEN = 1,       /* The signal has no samples, or the build has no models. */
+    FOLDWIG_TOO_MANY = 2,            /* The signal has more than 512 samples, or the build more than 4,096 models. */
+    FOLDWIG_BAD_LIMIT = 3,           /* max_segments is 0 or more than 32, or, with a table, more than 16. */
+    FOLDWIG_BAD_PENALTY = 4,         /* p is more than 2^44, or q is 0 or more than 65,535. */
+    FOLDWIG_BAD_MODEL = 5,           /* A new model is out of range, or its size or its loss is lacking. */
+    FOLDWIG_SIZE_NOT_LARGER = 6,     /* A new size is not larger than the last entry's. */
+    FOLDWIG_LOSS_LARGER = 7,         /* A new loss is larger than the last entry's. */
+    FOLDWIG_BAD_PATH = 8,            /* The path lent is out of range or out of order, or shorter than its number of entries. */
+    FOLDWIG_NO_ROOM = 9,             /* A buffer is too short. */
+    FOLDWIG_EMPTY_PATH = 10,         /* There is no entry to select. */
+    FOLDWIG_BAD_LENGTH = 11,         /* A byte string ends inside an item: its length is not divisible by the width. */
+    FOLDWIG_TABLE_DAMAGED = 12,      /* In a sample's column a mark is missing, or a value is more than 2^44. */
+    FOLDWIG_BAD_MIN_SEGMENT_LEN = 13 /* min_segment_len is 0 or more than the number of samples. */
 };
 
 /* The number of refusals with 0, and a short text for each: the initialiser of an array of so many strings. */
-#define FOLDWIG_REFUSALS 13
+#define FOLDWIG_REFUSALS 14
 #define FOLDWIG_REFUSAL_TEXTS                                                                                                    \
     {                                                                                                                            \
         "accepted", "no samples or no models", "too many samples or models", "limit out of range", "penalty out of range",       \
             "new model out of range or incomplete", "new size not larger than the last", "new loss larger than the last",        \
             "path out of range, out of order or too long", "buffer too short", "path without entries",                           \
-            "length not a whole number of items", "table damaged"                                                                \
+            "length not a whole number of items", "table damaged", "least length out of range"                                   \
     }
 
 /* A model, or an entry of a path. */
@@ -280,31 +281,34 @@ struct foldwig_breakpoints_result foldwig_breakpoints_entries(const struct foldw
                                                               uint64_t *denominators, size_t denominators_len);
 
 /*
- * Gives the path of a signal (R25 to R31): the sizes from 1 to max_segments, at most the number of samples, that can be the
- * cheapest at some penalty, each with the least loss that so many segments can have. The path is written to the front of
+ * Gives the path of a signal (R25 to R31) cut into segments of min_segment_len samples or more (R98): the sizes from 1 to
+ * max_segments, as far as there are samples enough for so many segments, that can be the cheapest at some penalty, each with the
+ * least loss that so many of them can have. With min_segment_len 1 every segment counts. The path is written to the front of
  * path_sizes and path_losses, with zeros behind it as far as the smaller of max_segments and the number of samples. All other
  * places stay. The scratch may hold anything before, and every byte of it is zero afterwards.
- * Refusals, in order: 11, 1, 2, 3, 9. The buffers need as many places as the smaller of max_segments and the number of samples,
+ * Refusals, in order: 11, 1, 2, 3, 13, 9. The buffers need as many places as the smaller of max_segments and the number of samples,
  * and the scratch FOLDWIG_SCRATCH_LEN bytes.
- * Stack: 17,000 bytes.
+ * Stack: 25,300 bytes.
  */
 struct foldwig_signal_path_result foldwig_signal_path(const uint8_t *samples, size_t samples_len, uint64_t max_segments,
-                                                      uint8_t *path_sizes, size_t path_sizes_len, uint8_t *path_losses,
-                                                      size_t path_losses_len, uint8_t *scratch, size_t scratch_len);
+                                                      uint64_t min_segment_len, uint8_t *path_sizes, size_t path_sizes_len,
+                                                      uint8_t *path_losses, size_t path_losses_len, uint8_t *scratch,
+                                                      size_t scratch_len);
 
 /*
- * Splits a signal at the penalty p / q into 1 to max_segments segments, so that q * loss + p * segments is least, with as few
- * segments as that allows (R25 to R35). Of the best segmentations of this size it gives the one whose last segment starts
- * earliest, then the one before it, and so on. The starts, counted from 1, and the levels go to the front of two buffers, and the
- * rest of both stays. The path of the signal and the scratch are as foldwig_signal_path leaves them.
- * Refusals, in order: 11, 1, 2, 3, 4, 9. All four buffers need as many places as the smaller of max_segments and the number of
+ * Splits a signal at the penalty p / q into 1 to max_segments segments of min_segment_len samples or more, so that
+ * q * loss + p * segments is least, with as few segments as that allows (R25 to R35, R98). Of the best segmentations of this size
+ * it gives the one whose last segment starts earliest, then the one before it, and so on. The starts, counted from 1, and the
+ * levels go to the front of two buffers, and the rest of both stays. The path of the signal and the scratch are as
+ * foldwig_signal_path leaves them.
+ * Refusals, in order: 11, 1, 2, 3, 13, 4, 9. All four buffers need as many places as the smaller of max_segments and the number of
  * samples, even if fewer segments come out, and the scratch FOLDWIG_SCRATCH_LEN bytes.
- * Stack: 17,000 bytes.
+ * Stack: 25,300 bytes.
  */
-struct foldwig_split_result foldwig_split(const uint8_t *samples, size_t samples_len, uint64_t max_segments, uint64_t p,
-                                          uint64_t q, uint8_t *starts, size_t starts_len, uint8_t *levels, size_t levels_len,
-                                          uint8_t *path_sizes, size_t path_sizes_len, uint8_t *path_losses,
-                                          size_t path_losses_len, uint8_t *scratch, size_t scratch_len);
+struct foldwig_split_result foldwig_split(const uint8_t *samples, size_t samples_len, uint64_t max_segments,
+                                          uint64_t min_segment_len, uint64_t p, uint64_t q, uint8_t *starts, size_t starts_len,
+                                          uint8_t *levels, size_t levels_len, uint8_t *path_sizes, size_t path_sizes_len,
+                                          uint8_t *path_losses, size_t path_losses_len, uint8_t *scratch, size_t scratch_len);
 
 /*
  * Extends a table by one more sample, and gives the path of all samples with it. samples holds those so far, perhaps none. The

@@ -9,11 +9,12 @@ use Rattle.coding.specs.Coding.{Outcome, outcome, signeds}
 use Rattle.coding.proofs.Cutting.{Cutting, firstUnsigneds, firstSigneds, allRaw, _⊠_, namedCut}
 use Rattle.coding.proofs.Calls.{longer, Cut, cut-by, told}
 use Rattle.path.specs.Model.{Model}
-use Rattle.path.specs.Refusal.{Check, refusalOf}
+use Rattle.path.specs.Refusal.{Check, check, refusalOf}
 use Rattle.path.proofs.Cuts.{leb-take}
 use Rattle.least.specs.Segmentation.{maxSegments}
-use Rattle.signal.specs.Signal.{sizeCount, leastLosses, signalPath}
-use Rattle.signal.specs.SignalPath.{PathBuffers, pathBuffers, pathRooms, roomCheck, signalPathChecks, signalPathRefused, SignalPathOutcome, signalPathLeft, signalPathOf}
+use Rattle.least.proofs.Counts.{count-most}
+use Rattle.signal.specs.Signal.{sizeCount, placeCount, leastLosses, signalPath}
+use Rattle.signal.specs.SignalPath.{PathBuffers, pathBuffers, pathRooms, validLen, roomCheck, signalPathChecks, signalPathRefused, SignalPathOutcome, signalPathLeft, signalPathOf}
 use Rattle.signal.specs.declared.SignalPathResult.{SignalPathResult}
 use Rattle.signal.proofs.Inputs.{path-solvable}
 use Rattle.byte_signals.specs.Signals.{pathNames, pathCoding, signalPathAnswers, signalPathTold, signalPathCall}
@@ -26,12 +27,12 @@ samplesCut = firstSigneds readSamples
 abbrev pub pathCut : Cutting pathCoding
 pathCut = namedCut pathNames pathNames (firstUnsigneds 2 maxSegments ⊠ firstUnsigneds 8 maxSegments ⊠ allRaw)
 
-module _ (limit : ℕ) where
+module _ (limit d : ℕ) where
   abbrev checks : List ℤ → PathBuffers → List Check
-  checks xs b = signalPathChecks (length xs) limit (pathRooms b) (length (b .scratch))
+  checks xs b = signalPathChecks (length xs) limit d (pathRooms b) (length (b .scratch))
 
   abbrev accepted : List ℤ → PathBuffers → SignalPathOutcome
-  accepted xs b = signalPathLeft (signalPath xs (sizeCount xs limit)) (sizeCount xs limit) b
+  accepted xs b = signalPathLeft (signalPath xs d (sizeCount xs limit d)) (placeCount xs limit) b
 
   abbrev left : List ℤ → PathBuffers → Outcome SignalPathResult PathBuffers
   left xs b = signalPathTold (accepted xs b)
@@ -46,21 +47,21 @@ module _ (limit : ℕ) where
       (λ h n. rw (leb-take (min limit n) maxSegments (b .sizes) (omega arith), leb-take (min limit n) maxSegments (b .losses) (omega arith)))
     where
       rooms : PathBuffers → ℕ → List Check
-      rooms d n = roomCheck (min limit n) (pathRooms d) (length (d .scratch)) ∷ []
+      rooms lent n = check 13 (validLen n d) ∷ roomCheck (min limit n) (pathRooms lent) (length (lent .scratch)) ∷ []
 
   left-cut : (xs : List ℤ) (b : PathBuffers) → refusalOf (checks xs b) ≡ 0 → left xs b ≡ cutLeft (take readSamples xs) b
   left-cut xs b e =
-      let ok = path-solvable xs limit b e in
-      let n = sizeCount xs limit in
-      let filled = filled-cut (leastLosses xs) n maxSegments (omega (arith, ok .few)) in
+      let ok = path-solvable xs limit d b e in
+      let k = sizeCount xs limit d in
+      let filled = filled-cut (leastLosses xs d) k (placeCount xs limit) maxSegments (count-most (length xs) d limit k refl) (omega (arith, ok .few)) in
       let sizes = filled (λ (m : Model). m .size) (b .sizes) in
       let losses = filled (λ (m : Model). m .loss) (b .losses) in
       subst (λ (ys : List ℤ). left xs b ≡ cutLeft ys b) (sym (few-samples xs (ok .short)))
-      (λ i. outcome record { refusal = 0; entries = length (signalPath xs n) } (pathBuffers (sizes i) (losses i) (replicate (length (b .scratch)) 0)))
+      (λ i. outcome record { refusal = 0; entries = length (signalPath xs d k) } (pathBuffers (sizes i) (losses i) (replicate (length (b .scratch)) 0)))
 
-  pub signal-path-cut : (xs : List ℤ) (b : PathBuffers) → Cut samplesCut pathCut signalPathAnswers (signalPathCall limit) xs b
+  pub signal-path-cut : (xs : List ℤ) (b : PathBuffers) → Cut samplesCut pathCut signalPathAnswers (signalPathCall limit d) xs b
   unfolding signalPathOf
   signal-path-cut xs b =
-      cut-by samplesCut pathCut signalPathAnswers (signalPathCall limit) checks left
+      cut-by samplesCut pathCut signalPathAnswers (signalPathCall limit d) checks left
       (λ xs b. told signalPathTold (checks xs b) (signalPathRefused b) (accepted xs b))
       (λ xs b. refl) xs b (checks-cut xs b) (left-cut xs b)

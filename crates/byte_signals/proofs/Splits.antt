@@ -13,8 +13,9 @@ use Rattle.path.specs.Refusal.{Check, check, refusalOf}
 use Rattle.path.proofs.Cuts.{overwritten-cut, leb-take}
 use Rattle.select.specs.Penalty.{validPenalty}
 use Rattle.least.specs.Segmentation.{maxSegments, pieceStart, pieceLevel, startsOf, levelsOf, lossOf, least}
-use Rattle.signal.specs.Signal.{sizeCount, leastLosses, signalPath, segmentsAt, segmentation}
-use Rattle.signal.specs.SignalPath.{roomCheck}
+use Rattle.least.proofs.Counts.{count-most}
+use Rattle.signal.specs.Signal.{sizeCount, placeCount, leastLosses, signalPath, segmentsAt, segmentation}
+use Rattle.signal.specs.SignalPath.{validLen, roomCheck}
 use Rattle.signal.specs.Split.{SplitBuffers, splitBuffers, splitRooms, splitChecks, splitRefused, SplitOutcome, splitAt, splitOf}
 use Rattle.signal.specs.declared.SplitResult.{SplitResult}
 use Rattle.signal.proofs.Inputs.{splittable}
@@ -26,12 +27,12 @@ use Rattle.byte_signals.proofs.SignalCuts.{few-samples, input-cut, fill
 abbrev pub splitCut : Cutting splitCoding
 splitCut = namedCut splitStringNames splitBufferNames (firstUnsigneds 2 maxSegments ⊠ firstSigneds maxSegments ⊠ pathCut)
 
-module _ (limit p q : ℕ) where
+module _ (limit d p q : ℕ) where
   abbrev checks : List ℤ → SplitBuffers → List Check
-  checks xs b = splitChecks (length xs) limit p q (splitRooms b) (length (b .path .scratch))
+  checks xs b = splitChecks (length xs) limit d p q (splitRooms b) (length (b .path .scratch))
 
   abbrev accepted : List ℤ → SplitBuffers → SplitOutcome
-  accepted xs b = splitAt xs (signalPath xs (sizeCount xs limit)) (sizeCount xs limit) p q b
+  accepted xs b = splitAt xs d (signalPath xs d (sizeCount xs limit d)) (placeCount xs limit) p q b
 
   abbrev left : List ℤ → SplitBuffers → Outcome SplitResult SplitBuffers
   left xs b = splitTold (accepted xs b)
@@ -51,28 +52,30 @@ module _ (limit p q : ℕ) where
       ))
     where
       rooms : SplitBuffers → ℕ → List Check
-      rooms d n = check 4 (validPenalty p q) ∷ roomCheck (min limit n) (splitRooms d) (length (d .path .scratch)) ∷ []
+      rooms lent n =
+          check 13 (validLen n d) ∷ check 4 (validPenalty p q) ∷ roomCheck (min limit n) (splitRooms lent) (length (lent .path .scratch)) ∷ []
 
   left-cut : (xs : List ℤ) (b : SplitBuffers) → refusalOf (checks xs b) ≡ 0 → left xs b ≡ cutLeft (take readSamples xs) b
   left-cut xs b e =
-      let ok = splittable xs limit p q b e .solvable in
-      let n = sizeCount xs limit in
-      let path = signalPath xs n in
+      let ok = splittable xs limit d p q b e .solvable in
+      let n = sizeCount xs limit d in
+      let most = count-most (length xs) d limit n refl in
+      let path = signalPath xs d n in
       let k = segmentsAt path p q in
-      let few : k ≤ maxSegments = omega (arith, segments-few (leastLosses xs) n p q, ok .few) in
-      let filled = filled-cut (leastLosses xs) n maxSegments (omega (arith, ok .few)) in
+      let few : k ≤ maxSegments = omega (arith, segments-few (leastLosses xs d) n p q, most, ok .few) in
+      let filled = filled-cut (leastLosses xs d) n (placeCount xs limit) maxSegments most (omega (arith, ok .few)) in
       let sizes = filled (λ (m : Model). m .size) (b .path .sizes) in
       let losses = filled (λ (m : Model). m .loss) (b .path .losses) in
-      let cuts = segmentation xs k in
-      let starts = overwritten-cut (startsOf cuts) maxSegments (b .starts) (pieces-few pieceStart xs (least xs) k maxSegments few (omega arith)) in
-      let levels = overwritten-cut (levelsOf cuts) maxSegments (b .levels) (pieces-few pieceLevel xs (least xs) k maxSegments few (omega arith)) in
+      let cuts = segmentation xs d k in
+      let starts = overwritten-cut (startsOf cuts) maxSegments (b .starts) (pieces-few pieceStart xs (least xs d) d k maxSegments few (omega arith)) in
+      let levels = overwritten-cut (levelsOf cuts) maxSegments (b .levels) (pieces-few pieceLevel xs (least xs d) d k maxSegments few (omega arith)) in
       subst (λ (ys : List ℤ). left xs b ≡ cutLeft ys b) (sym (few-samples xs (ok .short)))
       (λ i. outcome record { refusal = 0; segments = k; loss = lossOf cuts; entries = length path }
       (splitBuffers (starts i) (levels i) (sizes i) (losses i) (replicate (length (b .path .scratch)) 0)))
 
-  pub split-cut : (xs : List ℤ) (b : SplitBuffers) → Cut samplesCut splitCut splitAnswers (splitCall limit p q) xs b
+  pub split-cut : (xs : List ℤ) (b : SplitBuffers) → Cut samplesCut splitCut splitAnswers (splitCall limit d p q) xs b
   unfolding splitOf
   split-cut xs b =
-      cut-by samplesCut splitCut splitAnswers (splitCall limit p q) checks left
+      cut-by samplesCut splitCut splitAnswers (splitCall limit d p q) checks left
       (λ xs b. told splitTold (checks xs b) (splitRefused b) (accepted xs b))
       (λ xs b. refl) xs b (checks-cut xs b) (left-cut xs b)

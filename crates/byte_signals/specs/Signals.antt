@@ -31,12 +31,12 @@ signalPathAnswers =
 abbrev pub signalPathTold : SignalPathOutcome → Outcome SignalPathResult PathBuffers
 signalPathTold o = outcome (record { refusal = o .refusal; entries = o .entries }) (o .buffers)
 
--- The path of a signal, with at most `limit` segments.
-abbrev pub signalPathCall : ℕ → List ℤ → PathBuffers → Outcome SignalPathResult PathBuffers
-signalPathCall limit samples b = signalPathTold (signalPathOf samples limit b)
+-- The path of a signal, with at most `limit` segments, each of at least d samples.
+abbrev pub signalPathCall : ℕ → ℕ → List ℤ → PathBuffers → Outcome SignalPathResult PathBuffers
+signalPathCall limit d samples b = signalPathTold (signalPathOf samples limit d b)
 
-abbrev pub signalPathBytesOf : List ℕ → ℕ → PathBuffers → Outcome SignalPathResult PathBuffers
-signalPathBytesOf samples limit = onBytes signeds pathCoding signalPathAnswers (signalPathCall limit) samples
+abbrev pub signalPathBytesOf : List ℕ → ℕ → ℕ → PathBuffers → Outcome SignalPathResult PathBuffers
+signalPathBytesOf samples limit d = onBytes signeds pathCoding signalPathAnswers (signalPathCall limit d) samples
 
 -- The byte strings that a split is lent.
 pub record SplitStrings : Type 0 where
@@ -83,9 +83,9 @@ abbrev pub splitTold : SplitOutcome → Outcome SplitResult SplitBuffers
 splitTold o =
     outcome (record { refusal = o .refusal; segments = o .segments; loss = o .loss; entries = o .entries }) (o .buffers)
 
--- The split of a signal at the penalty p / q, with at most `limit` segments.
-abbrev pub splitCall : ℕ → ℕ → ℕ → List ℤ → SplitBuffers → Outcome SplitResult SplitBuffers
-splitCall limit p q samples b = splitTold (splitOf samples limit p q b)
+-- The split of a signal at the penalty p / q, with at most `limit` segments, each of at least d samples.
+abbrev pub splitCall : ℕ → ℕ → ℕ → ℕ → List ℤ → SplitBuffers → Outcome SplitResult SplitBuffers
+splitCall limit d p q samples b = splitTold (splitOf samples limit d p q b)
 
-abbrev pub splitBytesOf : List ℕ → ℕ → ℕ → ℕ → SplitStrings → Outcome SplitResult SplitStrings
-splitBytesOf samples limit p q = onBytes signeds splitCoding splitAnswers (splitCall limit p q) samples
+abbrev pub splitBytesOf : List ℕ → ℕ → ℕ → ℕ → ℕ → SplitStrings → Outcome SplitResult SplitStrings
+splitBytesOf samples limit d p q = onBytes signeds splitCoding splitAnswers (splitCall limit d p q) samples

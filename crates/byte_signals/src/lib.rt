@@ -25,6 +25,7 @@ pub const READ_SAMPLES: usize = MAX_SAMPLES + 1;
 fn path_items(
     samples: &[u8],
     max_segments: u64,
+    min_segment_len: u64,
     path_sizes: &mut [u8],
     path_losses: &mut [u8],
     scratch: &mut [u8],
@@ -37,12 +38,19 @@ fn path_items(
         (length (now «sample_items»)) (length (now «size_items»)) (length (now «loss_items»)) ⌝ }
     ensures { λ r. ⌜ outcome r
         (pathBuffers (now («path_sizes» .exit)) (now («path_losses» .exit)) (now (scratch .exit)))
-        ≡ signalPathBytesOf (now (samples .entry)) «max_segments»
+        ≡ signalPathBytesOf (now (samples .entry)) «max_segments» «min_segment_len»
         (pathBuffers (now («path_sizes» .entry)) (now («path_losses» .entry)) (now (scratch .entry))) ⌝ }
 {
     read_i16s(samples, sample_items);
     read_models(path_sizes, path_losses, size_items, loss_items);
-    let path = signal::signal_path(sample_items, max_segments, size_items, loss_items, scratch);
+    let path = signal::signal_path(
+        sample_items,
+        max_segments,
+        min_segment_len,
+        size_items,
+        loss_items,
+        scratch,
+    );
     encode_models(
         path.refusal,
         path_sizes,
@@ -53,17 +61,19 @@ fn path_items(
     path
 }
 
-// The path of a signal: the sizes up to the limit that can be the cheapest at some penalty, with their losses.
+// The path of a signal cut into segments of a least length: the sizes up to the limit that can be the cheapest at some penalty, with
+// their losses.
 pub fn signal_path(
     samples: &[u8],
     max_segments: u64,
+    min_segment_len: u64,
     path_sizes: &mut [u8],
     path_losses: &mut [u8],
     scratch: &mut [u8],
 ) -> SignalPathResult
     ensures { λ r. ⌜ outcome r
         (pathBuffers (now («path_sizes» .exit)) (now («path_losses» .exit)) (now (scratch .exit)))
-        ≡ signalPathBytesOf (now (samples .entry)) «max_segments»
+        ≡ signalPathBytesOf (now (samples .entry)) «max_segments» «min_segment_len»
         (pathBuffers (now («path_sizes» .entry)) (now («path_losses» .entry)) (now (scratch .entry))) ⌝ }
 {
     let spare = samples.len() % 2 + path_sizes.len() % 2 + path_losses.len() % 8;
@@ -82,6 +92,7 @@ pub fn signal_path(
     path_items(
         samples,
         max_segments,
+        min_segment_len,
         path_sizes,
         path_losses,
         scratch,
@@ -95,6 +106,7 @@ pub fn signal_path(
 fn split_items(
     samples: &[u8],
     max_segments: u64,
+    min_segment_len: u64,
     p: u64,
     q: u64,
     starts: &mut [u8],
@@ -118,7 +130,7 @@ fn split_items(
         (splitStrings
         (now (starts .exit)) (now (levels .exit))
         (now («path_sizes» .exit)) (now («path_losses» .exit)) (now (scratch .exit)))
-        ≡ splitBytesOf (now (samples .entry)) «max_segments» p q
+        ≡ splitBytesOf (now (samples .entry)) «max_segments» «min_segment_len» p q
         (splitStrings
         (now (starts .entry)) (now (levels .entry))
         (now («path_sizes» .entry)) (now («path_losses» .entry)) (now (scratch .entry))) ⌝ }
@@ -129,6 +141,7 @@ fn split_items(
     let split = signal::split(
         sample_items,
         max_segments,
+        min_segment_len,
         p,
         q,
         start_items,
@@ -148,10 +161,11 @@ fn split_items(
     split
 }
 
-// The segmentation of a signal at the penalty p / q, and the signal's path.
+// The segmentation of a signal at the penalty p / q into segments of a least length, and the signal's path of such segments.
 pub fn split(
     samples: &[u8],
     max_segments: u64,
+    min_segment_len: u64,
     p: u64,
     q: u64,
     starts: &mut [u8],
@@ -164,7 +178,7 @@ pub fn split(
         (splitStrings
         (now (starts .exit)) (now (levels .exit))
         (now («path_sizes» .exit)) (now («path_losses» .exit)) (now (scratch .exit)))
-        ≡ splitBytesOf (now (samples .entry)) «max_segments» p q
+        ≡ splitBytesOf (now (samples .entry)) «max_segments» «min_segment_len» p q
         (splitStrings
         (now (starts .entry)) (now (levels .entry))
         (now («path_sizes» .entry)) (now («path_losses» .entry)) (now (scratch .entry))) ⌝ }
@@ -195,6 +209,7 @@ pub fn split(
     split_items(
         samples,
         max_segments,
+        min_segment_len,
         p,
         q,
         starts,

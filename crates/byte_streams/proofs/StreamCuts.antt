@@ -18,7 +18,7 @@ use Rattle.select.specs.Penalty.{validPenalty}
 use Rattle.layout.specs.Items.{wholeItems}
 use Rattle.segment.specs.Segment.{maxSamples}
 use Rattle.least.specs.Segmentation.{pieceStart, pieceLevel, startsOf, levelsOf, lossOf}
-use Rattle.signal.specs.Signal.{sizeCount, segmentsAt}
+use Rattle.signal.specs.Signal.{placeCount, segmentsAt}
 use Rattle.stream.specs.Table.{maxRows, value, withColumn, columnLosses}
 use Rattle.stream.specs.Extend.{StreamBuffers, streamBuffers, tableChecks, extendChecks, columnPath, extendRefused, ExtendOutcome, extendedTo, extendOf}
 use Rattle.stream.specs.SplitFrom.{SegmentBuffers, segmentBuffers, splitFromChecks, splitFromRefused, tableSegmentation, splitInto, splitFromOf}
@@ -65,7 +65,7 @@ module _ (x : ℤ) (limit : ℕ) where
       let ys = xs ++ (x ∷ []) in
       let table = withColumn ys (b .table) maxRows in
       let n = min limit (length ys) in
-      let filled = filled-cut (columnLosses table (length ys)) n maxRows (omega (arith, ok .few)) in
+      let filled = filled-cut (columnLosses table (length ys)) n n maxRows (omega arith) (omega (arith, ok .few)) in
       let sizes = filled (λ (m : Model). m .size) (b .sizes) in
       let losses = filled (λ (m : Model). m .loss) (b .losses) in
       subst (λ (zs : List ℤ). left xs b ≡ cutLeft zs b) (sym (few-samples xs (omega (arith, ok .short))))
@@ -89,7 +89,7 @@ module _ (limit p q : ℕ) (table : List ℕ) where
   splitChecks xs b = splitFromChecks (length xs) limit p q table (splitRooms b)
 
   abbrev segmentsFor : List ℤ → ℕ
-  segmentsFor xs = segmentsAt (columnPath table (length xs) (sizeCount xs limit)) p q
+  segmentsFor xs = segmentsAt (columnPath table (length xs) (placeCount xs limit)) p q
 
   abbrev splitLeft : List ℤ → SegmentBuffers → Outcome SplitFromResult SegmentBuffers
   splitLeft xs b = splitFromTold (splitInto xs table (segmentsFor xs) b)
@@ -109,12 +109,12 @@ module _ (limit p q : ℕ) (table : List ℕ) where
   split-left-cut : (xs : List ℤ) (b : SegmentBuffers) → refusalOf (splitChecks xs b) ≡ 0 → splitLeft xs b ≡ splitCutLeft (take readSamples xs) b
   split-left-cut xs b e =
       let ok = splittable (length xs) limit p q table (length (b .starts)) (length (b .levels)) e in
-      let n = sizeCount xs limit in
+      let n = placeCount xs limit in
       let k = segmentsFor xs in
       let few : k ≤ maxRows = omega (arith, segments-few (columnLosses table (length xs)) n p q, ok .few) in
       let cuts = tableSegmentation xs table k in
-      let starts = overwritten-cut (startsOf cuts) maxRows (b .starts) (pieces-few pieceStart xs (value table) k maxRows few (omega arith)) in
-      let levels = overwritten-cut (levelsOf cuts) maxRows (b .levels) (pieces-few pieceLevel xs (value table) k maxRows few (omega arith)) in
+      let starts = overwritten-cut (startsOf cuts) maxRows (b .starts) (pieces-few pieceStart xs (value table) 1 k maxRows few (omega arith)) in
+      let levels = overwritten-cut (levelsOf cuts) maxRows (b .levels) (pieces-few pieceLevel xs (value table) 1 k maxRows few (omega arith)) in
       subst (λ (zs : List ℤ). splitLeft xs b ≡ splitCutLeft zs b) (sym (few-samples xs (ok .short)))
       (λ i. outcome record { refusal = 0; segments = k; loss = lossOf cuts } (segmentBuffers (starts i) (levels i)))
 

@@ -7,28 +7,38 @@ ghost use Rattle.byte_signals.specs.Signals.{signalPathBytesOf, splitStrings, s
 use signal::SignalPathResult;
 use signal::SplitResult;
 
-// The path of a signal: the sizes up to the limit that can be the cheapest at some penalty, with their losses.
+// The path of a signal cut into segments of a least length: the sizes up to the limit that can be the cheapest at some penalty, with
+// their losses.
 #[no_mangle]
 pub extern "C" fn foldwig_signal_path(
     samples: &[u8],
     max_segments: u64,
+    min_segment_len: u64,
     path_sizes: &mut [u8],
     path_losses: &mut [u8],
     scratch: &mut [u8],
 ) -> SignalPathResult
     ensures { λ r. ⌜ outcome r
         (pathBuffers (now («path_sizes» .exit)) (now («path_losses» .exit)) (now (scratch .exit)))
-        ≡ signalPathBytesOf (now (samples .entry)) «max_segments»
+        ≡ signalPathBytesOf (now (samples .entry)) «max_segments» «min_segment_len»
         (pathBuffers (now («path_sizes» .entry)) (now («path_losses» .entry)) (now (scratch .entry))) ⌝ }
 {
-    byte_signals::signal_path(samples, max_segments, path_sizes, path_losses, scratch)
+    byte_signals::signal_path(
+        samples,
+        max_segments,
+        min_segment_len,
+        path_sizes,
+        path_losses,
+        scratch,
+    )
 }
 
-// The segmentation of a signal at the penalty p / q, and the signal's path.
+// The segmentation of a signal at the penalty p / q into segments of a least length, and the signal's path of such segments.
 #[no_mangle]
 pub extern "C" fn foldwig_split(
     samples: &[u8],
     max_segments: u64,
+    min_segment_len: u64,
     p: u64,
     q: u64,
     starts: &mut [u8],
@@ -41,7 +51,7 @@ pub extern "C" fn foldwig_split(
         (splitStrings
         (now (starts .exit)) (now (levels .exit))
         (now («path_sizes» .exit)) (now («path_losses» .exit)) (now (scratch .exit)))
-        ≡ splitBytesOf (now (samples .entry)) «max_segments» p q
+        ≡ splitBytesOf (now (samples .entry)) «max_segments» «min_segment_len» p q
         (splitStrings
         (now (starts .entry)) (now (levels .entry))
         (now («path_sizes» .entry)) (now («path_losses» .entry)) (now (scratch .entry))) ⌝ }
@@ -49,6 +59,7 @@ pub extern "C" fn foldwig_split(
     byte_signals::split(
         samples,
         max_segments,
+        min_segment_len,
         p,
         q,
         starts,

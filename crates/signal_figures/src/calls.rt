@@ -11,9 +11,11 @@ use testing::sample::START_MARK;
 use testing::sample::levels_of;
 use testing::sample::starts_of;
 
-// What a call is given beside the samples: the limit, the penalty p / q, and the number of places of each buffer.
+// What a call is given beside the samples: the limit, the least length of a segment, the penalty p / q, and the number of places of each
+// buffer.
 pub struct Arguments {
     pub limit: u64,
+    pub min_segment_len: u64,
     pub p: u64,
     pub q: u64,
     pub starts: usize,
@@ -24,10 +26,11 @@ pub struct Arguments {
 }
 
 impl Arguments {
-    // A limit and a penalty, with all places of each buffer.
+    // A limit and a penalty, with the least length 1 and all places of each buffer.
     pub fn of(limit: u64, p: u64, q: u64) -> Self {
         Arguments {
             limit: limit,
+            min_segment_len: 1,
             p: p,
             q: q,
             starts: 40,
@@ -36,6 +39,12 @@ impl Arguments {
             losses: 40,
             scratch: SCRATCH,
         }
+    }
+
+    // The same with another least length.
+    pub fn with_min_segment_len(mut self, min_segment_len: u64) -> Self {
+        self.min_segment_len = min_segment_len;
+        self
     }
 }
 
@@ -72,6 +81,7 @@ fn split_all(samples: &[i16], given: Arguments) -> Outcome {
     let made = signal::split(
         samples,
         given.limit,
+        given.min_segment_len,
         given.p,
         given.q,
         &mut starts[0..starts_room],
@@ -116,6 +126,7 @@ fn path_of_all(samples: &[i16], given: Arguments) -> Outcome {
     let made = signal::signal_path(
         samples,
         given.limit,
+        given.min_segment_len,
         &mut sizes[0..sizes_room],
         &mut losses[0..losses_room],
         &mut scratch[0..scratch_room],

@@ -35,19 +35,20 @@ returns c =
     let k = r .before .before .before .before .before in
     let a = s .args in
     let made = m .signal-path in
-    let after = made .last .1 .1 in
+    let after = made .last .1 .1 .1 in
     let written = w .encode-models .ensures in
     let models = d .read-models in
     let lists = pathBuffers (a .size-items .now) (a .loss-items .now) (a .scratch .now) in
     let left = pathBuffers (after .0) (after .1 .0) (after .1 .1 .0) in
     let lent = pathBuffers (a .path-sizes .now) (a .path-losses .now) (a .scratch .now) in
-    returned samplesCut pathCut signalPathAnswers (signalPathCall (a .max-segments)) (a .samples .now) lent (s .pre .whole)
+    let call = signalPathCall (a .max-segments) (a .min-segment-len) in
+    returned samplesCut pathCut signalPathAnswers call (a .samples .now) lent (s .pre .whole)
     (bytes-held (a .path-sizes .now) (k .before .slice-known .given), (bytes-held (a .path-losses .now) (k .slice-known2 .given), tt))
-    (signal-path-cut (a .max-segments) _ _) (a .sample-items .now) lists left (made .result)
+    (signal-path-cut (a .max-segments) (a .min-segment-len) _ _) (a .sample-items .now) lists left (made .result)
     (ap signalPathTold (made .ensures .0)
-    ∙ (λ i. signalPathCall (a .max-segments) (r .read-i16s .ensures i) (pathBuffers (models .ensures .sizes-are i) (models .ensures .losses-are i) (a .scratch .now))))
+    ∙ (λ i. call (r .read-i16s .ensures i) (pathBuffers (models .ensures .sizes-are i) (models .ensures .losses-are i) (a .scratch .now))))
     (s .pre .samples-fit) (s .pre .sizes-fit, (s .pre .losses-fit, tt))
-    (made .kept .1 .1 .0 ∙ models .kept .1 .1 .0 ∙ s .pre .sizes-fit, (made .kept .1 .1 .1 .0 ∙ models .kept .1 .1 .1 .0 ∙ s .pre .losses-fit, tt))
+    (made .kept .1 .1 .1 .0 ∙ models .kept .1 .1 .0 ∙ s .pre .sizes-fit, (made .kept .1 .1 .1 .1 .0 ∙ models .kept .1 .1 .1 .0 ∙ s .pre .losses-fit, tt))
     _ (λ i. pathBuffers (written .sizes-are i) (written .losses-are i) (after .1 .1 .0))
 
 pub path-items-spec : {M : Type 1} → statement M

@@ -18,7 +18,8 @@ returns : tie.Need-returns
 returns c =
     let a = c .before .before .before .before .before .args in
     let lent = pathBuffers (a .path-sizes .now) (a .path-losses .now) (a .scratch .now) in
-    eleven signeds pathCoding signalPathAnswers (signalPathCall (a .max-segments)) (a .samples .now) lent (λ e. c .if1 .taken (omega arith))
+    let call = signalPathCall (a .max-segments) (a .min-segment-len) in
+    eleven signeds pathCoding signalPathAnswers call (a .samples .now) lent (λ e. c .if1 .taken (omega arith))
 
 slice-aggregate-path-items : tie.Need-slice-aggregate-path-items
 slice-aggregate-path-items c =

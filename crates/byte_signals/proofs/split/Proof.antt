@@ -17,7 +17,8 @@ returns : tie.Need-returns
 returns c =
     let a = c .before .before .before .before .before .before .before .args in
     let lent = splitStrings (a .starts .now) (a .levels .now) (a .path-sizes .now) (a .path-losses .now) (a .scratch .now) in
-    eleven signeds splitCoding splitAnswers (splitCall (a .max-segments) (a .p) (a .q)) (a .samples .now) lent (λ e. c .if1 .taken (omega arith))
+    let call = splitCall (a .max-segments) (a .min-segment-len) (a .p) (a .q) in
+    eleven signeds splitCoding splitAnswers call (a .samples .now) lent (λ e. c .if1 .taken (omega arith))
 
 slice-aggregate-split-items : tie.Need-slice-aggregate-split-items
 slice-aggregate-split-items c =

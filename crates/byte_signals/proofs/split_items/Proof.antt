@@ -44,8 +44,8 @@ encode-segments-requires c κs =
     let r = at-segments (at-models m) in
     let s = at-start (at-samples r) in
     record {
-      first-has = omega (arith, s .pre .starts-fit, m .split .kept .1 .1 .1 .1 .0, r .read-segments .kept .1 .1 .0);
-      second-has = omega (arith, s .pre .levels-fit, m .split .kept .1 .1 .1 .1 .1 .0, r .read-segments .kept .1 .1 .1 .0);
+      first-has = omega (arith, s .pre .starts-fit, m .split .kept .1 .1 .1 .1 .1 .0, r .read-segments .kept .1 .1 .0);
+      second-has = omega (arith, s .pre .levels-fit, m .split .kept .1 .1 .1 .1 .1 .1 .0, r .read-segments .kept .1 .1 .1 .0);
     }
 
 encode-models-requires : tie.Need-encode-models-requires
@@ -54,8 +54,8 @@ encode-models-requires c κs =
     let r = at-models m in
     let s = at-start (at-samples (at-segments r)) in
     record {
-      first-has = omega (arith, s .pre .sizes-fit, m .split .kept .1 .1 .1 .1 .1 .1 .0, r .read-models .kept .1 .1 .0);
-      second-has = omega (arith, s .pre .losses-fit, m .split .kept .1 .1 .1 .1 .1 .1 .1 .0, r .read-models .kept .1 .1 .1 .0);
+      first-has = omega (arith, s .pre .sizes-fit, m .split .kept .1 .1 .1 .1 .1 .1 .1 .0, r .read-models .kept .1 .1 .0);
+      second-has = omega (arith, s .pre .losses-fit, m .split .kept .1 .1 .1 .1 .1 .1 .1 .1 .0, r .read-models .kept .1 .1 .1 .0);
     }
 
 same-length-6 : tie.Need-same-length-6
@@ -64,22 +64,22 @@ same-length-6 c = at-samples (at-segments (at-models (at-made (at-cut (at-writte
 same-length-7 : tie.Need-same-length-7
 same-length-7 c =
     let m = at-made (at-cut (at-written c)) in
-    m .split .kept .1 .1 .1 .1 .0 ∙ at-segments (at-models m) .read-segments .kept .1 .1 .0
+    m .split .kept .1 .1 .1 .1 .1 .0 ∙ at-segments (at-models m) .read-segments .kept .1 .1 .0
 
 same-length-8 : tie.Need-same-length-8
 same-length-8 c =
     let m = at-made (at-cut (at-written c)) in
-    m .split .kept .1 .1 .1 .1 .1 .0 ∙ at-segments (at-models m) .read-segments .kept .1 .1 .1 .0
+    m .split .kept .1 .1 .1 .1 .1 .1 .0 ∙ at-segments (at-models m) .read-segments .kept .1 .1 .1 .0
 
 same-length-9 : tie.Need-same-length-9
 same-length-9 c =
     let m = at-made (at-cut (at-written c)) in
-    m .split .kept .1 .1 .1 .1 .1 .1 .0 ∙ at-models m .read-models .kept .1 .1 .0
+    m .split .kept .1 .1 .1 .1 .1 .1 .1 .0 ∙ at-models m .read-models .kept .1 .1 .0
 
 same-length-10 : tie.Need-same-length-10
 same-length-10 c =
     let m = at-made (at-cut (at-written c)) in
-    m .split .kept .1 .1 .1 .1 .1 .1 .1 .0 ∙ at-models m .read-models .kept .1 .1 .1 .0
+    m .split .kept .1 .1 .1 .1 .1 .1 .1 .1 .0 ∙ at-models m .read-models .kept .1 .1 .1 .0
 
 returns : tie.Need-returns
 returns c =
@@ -93,13 +93,13 @@ returns c =
     let k = r .before .before .before .before .before .before in
     let a = s .args in
     let made = m .split in
-    let after = made .last .1 .1 .1 .1 in
+    let after = made .last .1 .1 .1 .1 .1 in
     let models = d .read-models in
     let segments = e .read-segments in
     let lists = splitBuffers (a .start-items .now) (a .level-items .now) (a .size-items .now) (a .loss-items .now) (a .scratch .now) in
     let left = splitBuffers (after .0) (after .1 .0) (after .1 .1 .0) (after .1 .1 .1 .0) (after .1 .1 .1 .1 .0) in
     let lent = splitStrings (a .starts .now) (a .levels .now) (a .path-sizes .now) (a .path-losses .now) (a .scratch .now) in
-    let call = splitCall (a .max-segments) (a .p) (a .q) in
+    let call = splitCall (a .max-segments) (a .min-segment-len) (a .p) (a .q) in
     returned samplesCut splitCut splitAnswers call (a .samples .now) lent (s .pre .whole) (
       bytes-held (a .starts .now) (k .before .before .before .slice-known .given),
       (
@@ -107,19 +107,19 @@ returns c =
         (bytes-held (a .path-sizes .now) (k .before .slice-known3 .given), (bytes-held (a .path-losses .now) (k .slice-known4 .given), tt)),
       ),
     )
-    (split-cut (a .max-segments) (a .p) (a .q) _ _) (a .sample-items .now) lists left (made .result)
+    (split-cut (a .max-segments) (a .min-segment-len) (a .p) (a .q) _ _) (a .sample-items .now) lists left (made .result)
     (ap splitTold (made .ensures .0)
     ∙ (λ i. call (r .read-i16s .ensures i)
     (splitBuffers
     (segments .ensures .starts-are i) (segments .ensures .levels-are i)
     (models .ensures .sizes-are i) (models .ensures .losses-are i) (a .scratch .now))))
     (s .pre .samples-fit) (s .pre .starts-fit, (s .pre .levels-fit, (s .pre .sizes-fit, (s .pre .losses-fit, tt)))) (
-      made .kept .1 .1 .1 .1 .0 ∙ segments .kept .1 .1 .0 ∙ s .pre .starts-fit,
+      made .kept .1 .1 .1 .1 .1 .0 ∙ segments .kept .1 .1 .0 ∙ s .pre .starts-fit,
       (
-        made .kept .1 .1 .1 .1 .1 .0 ∙ segments .kept .1 .1 .1 .0 ∙ s .pre .levels-fit,
+        made .kept .1 .1 .1 .1 .1 .1 .0 ∙ segments .kept .1 .1 .1 .0 ∙ s .pre .levels-fit,
         (
-          made .kept .1 .1 .1 .1 .1 .1 .0 ∙ models .kept .1 .1 .0 ∙ s .pre .sizes-fit,
-          (made .kept .1 .1 .1 .1 .1 .1 .1 .0 ∙ models .kept .1 .1 .1 .0 ∙ s .pre .losses-fit, tt),
+          made .kept .1 .1 .1 .1 .1 .1 .1 .0 ∙ models .kept .1 .1 .0 ∙ s .pre .sizes-fit,
+          (made .kept .1 .1 .1 .1 .1 .1 .1 .1 .0 ∙ models .kept .1 .1 .1 .0 ∙ s .pre .losses-fit, tt),
         ),
       ),
     )

@@ -1,82 +1,82 @@
--- `least::down_from` meets its contract. The invariant: of the starts from i on, `start` is the earliest with the greatest gain. Each turn
--- takes or keeps, or ends the search where no start before i can be as good. The measure is i.
+-- `least::down_from` meets its contract. The invariant: of the starts from i on, `start` is the earliest with the greatest gain, and none
+-- before low gains as much. Each turn takes or keeps, or ends the search where no start before i is left. The measure is i.
+use Prim.Native.Nat.{suc}
 use native.Mathlib.Omega.{arith}
-use Rattle.least.proofs.Search.{sum-low, sums-low, Down, down-start, down-end, down-stop, down-next, scan-take, scan-keep}
+use Rattle.least.proofs.Counts.{one-each}
+use Rattle.least.proofs.Search.{sum-low, Down, down-start, down-end, down-left, down-low, down-next, scan-take, scan-keep}
 use Rattle.least.proofs.down_from.Statement.{statement}
 use Rattle.least.proofs.down_from.Tie as tie
 
 abbrev Inv-loop : tie.InvT-loop
-Inv-loop samples sums recips old row m to own from i₀ tail₀ start₀ best₀ i tail start best = Down samples m to i tail start best
+Inv-loop samples sums recips squares old floors row d m to own from base low₀ i₀ tail₀ start₀ best₀ low i tail start best = Down samples d m to base low i tail start best
 
 abbrev μ-loop : tie.MeasureT-loop
-μ-loop samples sums recips old row m to own from i₀ tail₀ start₀ best₀ i tail start best = i
+μ-loop samples sums recips squares old floors row d m to own from base low₀ i₀ tail₀ start₀ best₀ low i tail start best = i
+
+add-base : tie.Need-add-base Inv-loop μ-loop
+add-base c = omega (arith, one-each (suc (suc (c .before .before .before .before .before .before .args .m))) (c .before .before .before .before .before .before .args .min-segment-len) (c .before .before .before .before .before .before .pre .search .one), c .before .before .before .before .before .before .pre .search .some, c .before .before .before .before .before .before .pre .search .within, c .before .before .before .before .before .before .pre .search .ready .summed .asked .short)
+
+mul-base : tie.Need-mul-base Inv-loop μ-loop
+mul-base c = omega (arith, c .before .before .before .before .before .before .pre .search .some, c .before .before .before .before .before .before .pre .search .within, c .before .before .before .before .before .before .pre .search .ready .summed .asked .short)
 
 mul-best : tie.Need-mul-best Inv-loop μ-loop
-mul-best c = omega arith
+mul-best c = omega (arith, c .before .before .before .before .before .before .pre .seed .at .below, c .before .before .before .before .before .before .pre .search .one)
 
 shared-slice-read-best : tie.Need-shared-slice-read-best Inv-loop μ-loop
-shared-slice-read-best c = omega arith
+shared-slice-read-best c = omega (arith, c .before .before .before .before .before .before .before .pre .seed .at .below, c .before .before .before .before .before .before .before .pre .search .one)
 
 add-best : tie.Need-add-best Inv-loop μ-loop
-add-best c = record { fits = omega (arith, sum-low (c .before .before .before .before .before .pre .search) (c .before .before .before .before .before .pre .seed .at)) }
+add-best c = record { fits = omega (arith, sum-low (c .before .before .before .before .before .before .before .pre .search) (c .before .before .before .before .before .before .before .pre .seed .at)) }
 
 loop-holds : tie.Need-loop-holds Inv-loop μ-loop
-loop-holds c = down-start (c .before .before .before .before .before .pre .search) (c .before .before .before .before .before .pre .seed)
+loop-holds c = down-start (c .before .before .before .before .before .before .before .pre .search) (omega arith) (c .before .before .before .before .before .before .before .pre .seed)
 
-add-loop : tie.Need-add-loop Inv-loop μ-loop
-add-loop c = omega arith
-
-mul-if1 : tie.Need-mul-if1 Inv-loop μ-loop
-mul-if1 c = omega arith
-
-shared-slice-read-if1 : tie.Need-shared-slice-read-if1 Inv-loop μ-loop
-shared-slice-read-if1 c = omega arith
-
-add-if1 : tie.Need-add-if1 Inv-loop μ-loop
-add-if1 c = record { fits = omega (arith, sums-low (c .before .before .before .before .before .before .before .before .pre .search) (c .before .before .loop .inv .at) (omega arith)) }
+lowest-left-requires : tie.Need-lowest-left-requires Inv-loop μ-loop
+lowest-left-requires c κs = down-left (c .before .before .before .before .before .before .before .before .before .pre .search) (c .before .loop .inv) (omega arith)
 
 returns : tie.Need-returns Inv-loop μ-loop
-returns c = down-stop (c .before .before .before .before .before .before .before .before .before .pre .search) (c .before .before .before .loop .inv) (omega arith) (omega arith)
+returns c = down-end (c .before .before .before .before .before .before .before .before .before .before .before .pre .search) (down-low (c .before .before .before .before .before .before .before .before .before .before .before .pre .search) (c .before .before .before .loop .inv) (c .before .lowest-left .ensures)) (omega arith)
 
 sub-i : tie.Need-sub-i Inv-loop μ-loop
 sub-i c = omega arith
 
 segment-gain-requires : tie.Need-segment-gain-requires Inv-loop μ-loop
 segment-gain-requires c κs =
-    let p = c .before .before .before .before .before .before .before .before .before .pre .search in
-    record { ready = p .ready; some = omega arith; within = p .within }
+    let p = c .before .before .before .before .before .before .before .before .before .before .before .pre .search in
+    record { ready = p .ready; some = omega (arith, c .before .before .before .loop .inv .at .below, p .one); within = p .within }
 
 mul-sum : tie.Need-mul-sum Inv-loop μ-loop
-mul-sum c = omega arith
+mul-sum c = omega (arith, c .before .before .before .before .loop .inv .at .below, c .before .before .before .before .before .before .before .before .before .before .before .before .pre .search .one)
 
 shared-slice-read-sum : tie.Need-shared-slice-read-sum Inv-loop μ-loop
-shared-slice-read-sum c = omega arith
+shared-slice-read-sum c = omega (arith, c .before .before .before .before .before .loop .inv .at .below, c .before .before .before .before .before .before .before .before .before .before .before .before .before .pre .search .one)
 
 add-sum : tie.Need-add-sum Inv-loop μ-loop
 add-sum c =
-    let p = c .before .before .before .before .before .before .before .before .before .before .before .pre .search in
-    record { fits = omega (arith, sum-low p (down-next p (c .before .before .before .before .before .loop .inv) (omega arith) (c .before .segment-gain .ensures))) }
+    let p = c .before .before .before .before .before .before .before .before .before .before .before .before .before .pre .search in
+    let d = down-low p (c .before .before .before .before .before .loop .inv) (c .before .before .before .lowest-left .ensures) in
+    record { fits = omega (arith, sum-low p (down-next p d (omega (arith, c .before .before .before .lowest-left .ensures .below)) (c .before .segment-gain .ensures))) }
 
 loop-less : tie.Need-loop-less Inv-loop μ-loop
 loop-less c = omega arith
 
 loop-again : tie.Need-loop-again Inv-loop μ-loop
 loop-again c =
-    let p = c .before .before .before .before .before .before .before .before .before .before .before .before .pre .search in
-    let d = c .before .before .before .before .before .before .loop .inv in
-    scan-take p d (omega arith) (down-next p d (omega arith) (c .before .before .segment-gain .ensures)) (omega arith)
+    let p = c .before .before .before .before .before .before .before .before .before .before .before .before .before .before .pre .search in
+    let d = down-low p (c .before .before .before .before .before .before .loop .inv) (c .before .before .before .before .lowest-left .ensures) in
+    scan-take p d (omega (arith, c .before .before .before .before .lowest-left .ensures .below)) (down-next p d (omega (arith, c .before .before .before .before .lowest-left .ensures .below)) (c .before .before .segment-gain .ensures)) (omega arith)
 
 loop-less-2 : tie.Need-loop-less-2 Inv-loop μ-loop
 loop-less-2 c = omega arith
 
 loop-again-2 : tie.Need-loop-again-2 Inv-loop μ-loop
 loop-again-2 c =
-    let p = c .before .before .before .before .before .before .before .before .before .before .before .before .pre .search in
-    let d = c .before .before .before .before .before .before .loop .inv in
-    scan-keep p d (omega arith) (down-next p d (omega arith) (c .before .before .segment-gain .ensures)) (omega arith)
+    let p = c .before .before .before .before .before .before .before .before .before .before .before .before .before .before .pre .search in
+    let d = down-low p (c .before .before .before .before .before .before .loop .inv) (c .before .before .before .before .lowest-left .ensures) in
+    scan-keep p d (omega (arith, c .before .before .before .before .lowest-left .ensures .below)) (down-next p d (omega (arith, c .before .before .before .before .lowest-left .ensures .below)) (c .before .before .segment-gain .ensures)) (omega arith)
 
 returns-2 : tie.Need-returns-2 Inv-loop μ-loop
-returns-2 c = down-end (c .before .before .before .before .before .before .before .pre .search) (c .before .loop .inv) (omega arith)
+returns-2 c = down-end (c .before .before .before .before .before .before .before .before .before .pre .search) (c .before .loop .inv) (omega arith)
 
 pub down-from-spec : {M : Type 1} → statement M
 down-from-spec =
@@ -84,14 +84,13 @@ down-from-spec =
     (tie.spec
     Inv-loop
     μ-loop
+    add-base
+    mul-base
     mul-best
     shared-slice-read-best
     add-best
     loop-holds
-    add-loop
-    mul-if1
-    shared-slice-read-if1
-    add-if1
+    lowest-left-requires
     returns
     sub-i
     segment-gain-requires

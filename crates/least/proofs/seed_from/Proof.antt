@@ -1,90 +1,84 @@
--- `least::seed_from` meets its contract. The invariant: of the starts from i on none is better than s. The measure is i.
+-- `least::seed_from` meets its contract. The invariant: of the starts from i on none is better than s, nor is any between s and low. The
+-- measure is i.
 use Prim.Native.Nat.{_+_, _-_}
 use native.Mathlib.Omega.{arith}
 use lib.ListN.{getD}
-use Rattle.least.proofs.Search.{sum-low, sums-low, Right, right-start, right-end, right-next, right-take, right-more, right-stop}
+use Rattle.least.proofs.Search.{sum-low, Right, right-start, right-end, right-next, right-take, right-left, right-more}
 use Rattle.least.proofs.seed_from.Statement.{statement}
 use Rattle.least.proofs.seed_from.Tie as tie
 
 abbrev Inv-loop : tie.InvT-loop
-Inv-loop samples sums recips old row m to s own right bound i₀ i = Right samples m to (getD old s 0 + own) i
+Inv-loop samples sums recips squares old floors row d m to s own right bound low₀ i₀ low i = Right samples d m to (getD old s 0 + own) s low i
 
 abbrev μ-loop : tie.MeasureT-loop
-μ-loop samples sums recips old row m to s own right bound i₀ i = i
+μ-loop samples sums recips squares old floors row d m to s own right bound low₀ i₀ low i = i
 
 mul-bound : tie.Need-mul-bound Inv-loop μ-loop
-mul-bound c = omega arith
+mul-bound c = omega (arith, c .before .before .before .before .before .before .pre .start .below, c .before .before .before .before .before .before .pre .search .one)
 
 shared-slice-read-bound : tie.Need-shared-slice-read-bound Inv-loop μ-loop
-shared-slice-read-bound c = omega arith
+shared-slice-read-bound c = omega (arith, c .before .before .before .before .before .before .before .pre .start .below, c .before .before .before .before .before .before .before .pre .search .one)
 
 add-bound : tie.Need-add-bound Inv-loop μ-loop
-add-bound c = record { fits = omega (arith, sum-low (c .before .before .before .before .before .pre .search) (c .before .before .before .before .before .pre .start)) }
+add-bound c = record { fits = omega (arith, sum-low (c .before .before .before .before .before .before .before .pre .search) (c .before .before .before .before .before .before .before .pre .start)) }
+
+add-low : tie.Need-add-low Inv-loop μ-loop
+add-low c = omega arith
 
 add-i : tie.Need-add-i Inv-loop μ-loop
 add-i c = omega arith
 
 loop-holds : tie.Need-loop-holds Inv-loop μ-loop
-loop-holds c = right-start (c .before .before .before .before .before .pre)
-
-add-loop : tie.Need-add-loop Inv-loop μ-loop
-add-loop c = omega arith
+loop-holds c = right-start (c .before .before .before .before .before .before .before .pre)
 
 sub-i : tie.Need-sub-i Inv-loop μ-loop
 sub-i c = omega arith
 
 segment-gain-requires : tie.Need-segment-gain-requires Inv-loop μ-loop
 segment-gain-requires c κs =
-    let p = c .before .before .before .before .before .before .before .pre in
-    record { ready = p .search .ready; some = omega (arith, c .before .loop .inv .within); within = p .search .within }
+    let p = c .before .before .before .before .before .before .before .before .before .pre in
+    record { ready = p .search .ready; some = omega (arith, c .before .loop .inv .within, p .search .one); within = p .search .within }
 
 mul-if1 : tie.Need-mul-if1 Inv-loop μ-loop
-mul-if1 c = omega arith
+mul-if1 c = omega (arith, c .before .before .loop .inv .within, c .before .before .before .before .before .before .before .before .before .before .pre .search .one)
 
 shared-slice-read-if1 : tie.Need-shared-slice-read-if1 Inv-loop μ-loop
-shared-slice-read-if1 c = omega arith
+shared-slice-read-if1 c = omega (arith, c .before .before .before .loop .inv .within, c .before .before .before .before .before .before .before .before .before .before .before .pre .search .one)
 
 add-if1 : tie.Need-add-if1 Inv-loop μ-loop
 add-if1 c =
-    let p = c .before .before .before .before .before .before .before .before .before .pre in
-    let n = right-next p (c .before .before .before .loop .inv) (omega arith) (c .before .segment-gain .ensures) in
-    record { fits = omega (arith, sums-low (p .search) n (omega (arith, p .start .above))) }
+    let p = c .before .before .before .before .before .before .before .before .before .before .before .pre in
+    record { fits = omega (arith, sum-low (p .search) (right-next p (c .before .before .before .loop .inv) (omega arith) (c .before .segment-gain .ensures))) }
 
 returns : tie.Need-returns Inv-loop μ-loop
 returns c =
-    let p = c .before .before .before .before .before .before .before .before .before .before .pre in
+    let p = c .before .before .before .before .before .before .before .before .before .before .before .before .pre in
     let r = c .before .before .before .before .loop .inv in
     right-take p r (omega arith) (right-next p r (omega arith) (c .before .before .segment-gain .ensures)) (omega arith)
 
-mul-if2 : tie.Need-mul-if2 Inv-loop μ-loop
-mul-if2 c = omega arith
+add-lowest-left : tie.Need-add-lowest-left Inv-loop μ-loop
+add-lowest-left c = omega arith
 
-shared-slice-read-if2 : tie.Need-shared-slice-read-if2 Inv-loop μ-loop
-shared-slice-read-if2 c = omega arith
+add-lowest-left-2 : tie.Need-add-lowest-left-2 Inv-loop μ-loop
+add-lowest-left-2 c = record { fits = omega (arith, sum-low (c .before .before .before .before .before .before .before .before .before .before .before .before .pre .search) (c .before .before .before .before .before .before .before .before .before .before .before .before .pre .start)) }
 
-add-if2 : tie.Need-add-if2 Inv-loop μ-loop
-add-if2 c =
-    let p = c .before .before .before .before .before .before .before .before .before .before .before .pre in
-    let n = right-next p (c .before .before .before .before .before .loop .inv) (omega arith) (c .before .before .before .segment-gain .ensures) in
-    record { fits = omega (arith, sums-low (p .search) n (omega (arith, p .start .above))) }
-
-returns-2 : tie.Need-returns-2 Inv-loop μ-loop
-returns-2 c =
+lowest-left-requires : tie.Need-lowest-left-requires Inv-loop μ-loop
+lowest-left-requires c κs =
     let p = c .before .before .before .before .before .before .before .before .before .before .before .before .pre in
-    let r = c .before .before .before .before .before .before .loop .inv in
-    right-stop p r (omega arith) (right-next p r (omega arith) (c .before .before .before .before .segment-gain .ensures)) (omega arith) (omega arith)
+    let r = c .before .before .before .before .loop .inv in
+    right-left p r (omega arith) (right-next p r (omega arith) (c .before .before .segment-gain .ensures)) (omega arith)
 
 loop-less : tie.Need-loop-less Inv-loop μ-loop
 loop-less c = omega arith
 
 loop-again : tie.Need-loop-again Inv-loop μ-loop
 loop-again c =
-    let p = c .before .before .before .before .before .before .before .before .before .before .before .before .pre in
-    let r = c .before .before .before .before .before .before .loop .inv in
-    right-more p r (omega arith) (right-next p r (omega arith) (c .before .before .before .before .segment-gain .ensures)) (omega arith)
+    let p = c .before .before .before .before .before .before .before .before .before .before .before .before .before .pre in
+    let r = c .before .before .before .before .before .loop .inv in
+    right-more p r (omega arith) (right-next p r (omega arith) (c .before .before .before .segment-gain .ensures)) (omega arith) (c .lowest-left .ensures)
 
-returns-3 : tie.Need-returns-3 Inv-loop μ-loop
-returns-3 c = right-end (c .before .before .before .before .before .before .before .pre) (c .before .loop .inv) (omega arith)
+returns-2 : tie.Need-returns-2 Inv-loop μ-loop
+returns-2 c = right-end (c .before .before .before .before .before .before .before .before .before .pre) (c .before .loop .inv) (omega arith)
 
 pub seed-from-spec : {M : Type 1} → statement M
 seed-from-spec =
@@ -95,19 +89,18 @@ seed-from-spec =
     mul-bound
     shared-slice-read-bound
     add-bound
+    add-low
     add-i
     loop-holds
-    add-loop
     sub-i
     segment-gain-requires
     mul-if1
     shared-slice-read-if1
     add-if1
     returns
-    mul-if2
-    shared-slice-read-if2
-    add-if2
-    returns-2
+    add-lowest-left
+    add-lowest-left-2
+    lowest-left-requires
     loop-less
     loop-again
-    returns-3)
+    returns-2)
