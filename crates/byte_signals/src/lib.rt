@@ -61,8 +61,8 @@ fn path_items(
     path
 }
 
-// The path of a signal cut into segments of a least length: the sizes up to the limit that can be the cheapest at some penalty, with
-// their losses.
+// The path of a signal cut into segments of min_segment_len samples or more: the sizes up to the limit that can be the cheapest at some
+// penalty, with their losses.
 pub fn signal_path(
     samples: &[u8],
     max_segments: u64,
@@ -161,7 +161,8 @@ fn split_items(
     split
 }
 
-// The segmentation of a signal at the penalty p / q into segments of a least length, and the signal's path of such segments.
+// The segmentation of a signal at the penalty p / q into segments of min_segment_len samples or more, and the signal's path of such
+// segments.
 pub fn split(
     samples: &[u8],
     max_segments: u64,

@@ -7,8 +7,8 @@ ghost use Rattle.byte_signals.specs.Signals.{signalPathBytesOf, splitStrings, s
 use signal::SignalPathResult;
 use signal::SplitResult;
 
-// The path of a signal cut into segments of a least length: the sizes up to the limit that can be the cheapest at some penalty, with
-// their losses.
+// The path of a signal cut into segments of min_segment_len samples or more: the sizes up to the limit that can be the cheapest at some
+// penalty, with their losses.
 #[no_mangle]
 pub extern "C" fn foldwig_signal_path(
     samples: &[u8],
@@ -33,7 +33,8 @@ pub extern "C" fn foldwig_signal_path(
     )
 }
 
-// The segmentation of a signal at the penalty p / q into segments of a least length, and the signal's path of such segments.
+// The segmentation of a signal at the penalty p / q into segments of min_segment_len samples or more, and the signal's path of such
+// segments.
 #[no_mangle]
 pub extern "C" fn foldwig_split(
     samples: &[u8],

@@ -509,8 +509,8 @@ pub fn trace_back(
     starts[0] = 1;
 }
 
-// Writes the levels of the chosen segmentation from its starts, from the last segment back. The least length
-// is lent for the contract alone.
+// Writes the levels of the chosen segmentation from its starts, from the last segment back. The least length is lent for the contract
+// alone.
 pub fn put_levels(
     samples: &[i16],
     starts: &[u16],

@@ -14,7 +14,9 @@ abbrev μ-loop : tie.MeasureT-loop
 μ-loop samples sums recips squares old floors row d m to own from base low₀ i₀ tail₀ start₀ best₀ low i tail start best = i
 
 add-base : tie.Need-add-base Inv-loop μ-loop
-add-base c = omega (arith, one-each (suc (suc (c .before .before .before .before .before .before .args .m))) (c .before .before .before .before .before .before .args .min-segment-len) (c .before .before .before .before .before .before .pre .search .one), c .before .before .before .before .before .before .pre .search .some, c .before .before .before .before .before .before .pre .search .within, c .before .before .before .before .before .before .pre .search .ready .summed .asked .short)
+add-base c =
+    let start = c .before .before .before .before .before .before in
+    omega (arith, one-each (suc (suc (start .args .m))) (start .args .min-segment-len) (start .pre .search .one), start .pre .search .some, start .pre .search .within, start .pre .search .ready .summed .asked .short)
 
 mul-base : tie.Need-mul-base Inv-loop μ-loop
 mul-base c = omega (arith, c .before .before .before .before .before .before .pre .search .some, c .before .before .before .before .before .before .pre .search .within, c .before .before .before .before .before .before .pre .search .ready .summed .asked .short)

@@ -1,7 +1,7 @@
 -- `least::next_row` meets its contract. The invariant: the cells of the row up to j are of m + 2 segments, row m of the table has the
 -- starts up to j, s is a start before the next end, and so is the limit. A search at j + 1 finds what it asks for in both rows. The
 -- measure is what is left of the samples.
-use mathlib.Core.Path.{_≡_, refl, sym, _∙_, ap, subst}
+use mathlib.Core.Path.{_≡_, refl, sym, _∙_, subst}
 use mathlib.Core.Logic.{inl, ⊎-elim}
 use mathlib.Core.List.{List}
 use Prim.Native.Nat.{ℕ, suc, _+_, _*_, _-_, _≤_, _<_}
@@ -153,7 +153,11 @@ cast-put-u16 : tie.Need-cast-put-u16 Inv-loop μ-loop
 cast-put-u16 c = record { fits = omega (arith, picked-within (c .before .pick-start .ensures .picked) (omega (arith, c .before .before .before .before .loop .inv .low)) .1, c .before .before .before .loop-test .taken, c .before .before .before .before .before .before .before .before .before .before .before .before .pre .ready .summed .asked .short) }
 
 put-u16-requires : tie.Need-put-u16-requires Inv-loop μ-loop
-put-u16-requires c κs = omega (arith, c .before .before .before .before .loop .inv .len-scratch, c .before .before .before .loop-test .taken, c .before .before .before .before .before .before .before .before .before .before .before .before .pre .len-scratch, c .before .before .before .before .before .before .before .before .before .before .before .before .pre .few, c .before .before .before .before .before .before .before .before .before .before .before .before .pre .ready .summed .asked .short)
+put-u16-requires c κs =
+    let at-test = c .before .before .before in
+    let at-loop = at-test .before in
+    let start = at-loop .before .before .before .before .before .before .before .before in
+    omega (arith, at-loop .loop .inv .len-scratch, at-test .loop-test .taken, start .pre .len-scratch, start .pre .few, start .pre .ready .summed .asked .short)
 
 add-j-2 : tie.Need-add-j-2 Inv-loop μ-loop
 add-j-2 c = omega (arith, c .before .before .before .before .before .before .loop-test .taken, c .before .before .before .before .before .before .before .before .before .before .before .before .before .before .before .pre .ready .summed .asked .short)

@@ -12,7 +12,7 @@ use Rattle.least.proofs.pick_start.Statement.{statement}
 use Rattle.least.proofs.pick_start.Tie as tie
 
 -- The start at hand, with the gain of its segment.
-at-hand : (c : tie.After-segment-gain) → StartAt (c .before .before .before .before .before .before .before .args .samples .now) (c .before .before .before .before .before .before .before .args .min-segment-len) (c .before .before .before .before .before .before .before .args .m) (c .before .before .before .before .before .before .before .args .to) (c .before .before .before .before .before .before .before .args .s) (c .segment-gain .result)
+at-hand : (c : tie.After-segment-gain) → (let start = c .before .before .before .before .before .before .before in StartAt (start .args .samples .now) (start .args .min-segment-len) (start .args .m) (start .args .to) (start .args .s) (c .segment-gain .result))
 at-hand c = let p = c .before .before .before .before .before .before .before .pre in record { above = p .above; below = p .below; own-is = c .segment-gain .ensures }
 
 segment-gain-requires : tie.Need-segment-gain-requires
@@ -34,7 +34,9 @@ shared-slice-read-top : tie.Need-shared-slice-read-top
 shared-slice-read-top c = search needs
 
 add-if1 : tie.Need-add-if1
-add-if1 c = omega (arith, one-each (suc (suc (c .before .before .before .before .before .before .before .before .before .args .m))) (c .before .before .before .before .before .before .before .before .before .args .min-segment-len) (c .before .before .before .before .before .before .before .before .before .pre .search .one), c .before .before .before .before .before .before .before .before .before .pre .search .some, c .before .before .before .before .before .before .before .before .before .pre .search .within, c .before .before .before .before .before .before .before .before .before .pre .search .ready .summed .asked .short)
+add-if1 c =
+    let start = c .before .before .before .before .before .before .before .before .before in
+    omega (arith, one-each (suc (suc (start .args .m))) (start .args .min-segment-len) (start .pre .search .one), start .pre .search .some, start .pre .search .within, start .pre .search .ready .summed .asked .short)
 
 mul-if1 : tie.Need-mul-if1
 mul-if1 c = search needs
@@ -47,7 +49,10 @@ returns c =
     record { picked = none-lost (p .search) (at-hand (c .before .before .before .before)) (omega arith) (omega (arith, p .search .squares-are .are (a .to) (omega (arith, p .search .within)))); limited = p .limited }
 
 sub-right-limit : tie.Need-sub-right-limit
-sub-right-limit c = omega (arith, c .before .before .before .before .before .before .before .before .before .before .pre .search .squares-are .are (c .before .before .before .before .before .before .before .before .before .before .args .to) (omega (arith, c .before .before .before .before .before .before .before .before .before .before .pre .search .within)), sum-is (c .before .before .before .before .before .before .before .before .before .before .pre .search) (at-hand (c .before .before .before)))
+sub-right-limit c =
+    let at-here = c .before .before .before in
+    let start = at-here .before .before .before .before .before .before .before in
+    omega (arith, start .pre .search .squares-are .are (start .args .to) (omega (arith, start .pre .search .within)), sum-is (start .pre .search) (at-hand (at-here)))
 
 right-limit-requires : tie.Need-right-limit-requires
 right-limit-requires c κs = search needs
