@@ -29,8 +29,8 @@
  * or go on with them in another process. A copy of both goes on as the original does.
  * A table is as the calls left it if each of the samples was given to foldwig_extend in turn, from no samples on, under whatever
  * limits, and nothing else has written to their columns since. With such a table the path and the segments are those that
- * foldwig_signal_path and foldwig_split give for the samples. With any other table that is not refused the calls work on the
- * values as they stand.
+ * foldwig_signal_path and foldwig_split give for the samples with min_segment_len 1. With any other table that is not refused the
+ * calls work on the values as they stand.
  *
  * Refusals. No call has a precondition on values: each answers a struct by value, and its first field is 0 if the call was
  * accepted and else a number of enum foldwig_refusal. Several causes may hold at once; the first one in the order given with the
