@@ -40,11 +40,12 @@ struct lent {
     int16_t levels[MAX_SEGMENTS];
     uint16_t path_sizes[MAX_SEGMENTS];
     uint64_t path_losses[MAX_SEGMENTS];
+    uint16_t path_weights[MAX_SEGMENTS];
     uint8_t scratch[FOLDWIG_SCRATCH_LEN];
 };
 
-// Any of the three, the full table with segments of any length alone. The library's answer is taken as one of the others, and a refusal
-// as 0 segments.
+// Any of the three, the full table with segments of any length alone. The library is lent no weights, so that a size is its weight. Its
+// answer is taken as one of the others, and a refusal as 0 segments.
 static struct split_answer split(enum implementation which, const struct signal *s, size_t limit, size_t length, int64_t p, int64_t q,
                                  struct lent *lent)
 {
@@ -53,9 +54,10 @@ static struct split_answer split(enum implementation which, const struct signal 
     if (which == FULL)
         return full_split(s->samples, s->n, limit, p, q, lent->starts, lent->levels);
     struct foldwig_split_result r = foldwig_split(
-        (const uint8_t *)s->samples, s->n * sizeof *s->samples, limit, length, (uint64_t)p, (uint64_t)q, (uint8_t *)lent->starts,
-        sizeof lent->starts, (uint8_t *)lent->levels, sizeof lent->levels, (uint8_t *)lent->path_sizes, sizeof lent->path_sizes,
-        (uint8_t *)lent->path_losses, sizeof lent->path_losses, lent->scratch, sizeof lent->scratch);
+        (const uint8_t *)s->samples, s->n * sizeof *s->samples, limit, length, NULL, 0, (uint64_t)p, (uint64_t)q,
+        (uint8_t *)lent->starts, sizeof lent->starts, (uint8_t *)lent->levels, sizeof lent->levels, (uint8_t *)lent->path_sizes,
+        sizeof lent->path_sizes, (uint8_t *)lent->path_losses, sizeof lent->path_losses, (uint8_t *)lent->path_weights,
+        sizeof lent->path_weights, lent->scratch, sizeof lent->scratch);
     return (struct split_answer){r.segments, (int64_t)r.loss};
 }
 

@@ -20,26 +20,34 @@ static size_t least(size_t a, size_t b)
     return a < b ? a : b;
 }
 
-// Reads the models, and gives the refusal of the lists: 11, 1, 2, 5, 6, 7 or 0.
-static uint64_t read_models(const uint8_t *sizes, size_t sizes_len, const uint8_t *losses, size_t losses_len, struct models *models)
+static size_t most(size_t a, size_t b)
 {
-    size_t both = least(sizes_len / 2, losses_len / 8);
-    if (sizes_len % 2 != 0 || losses_len % 8 != 0)
+    return a < b ? b : a;
+}
+
+// Reads the models, and gives the refusal of the lists: 11, 1, 2, 5, 6, 14, 7 or 0.
+static uint64_t read_models(const uint8_t *sizes, size_t sizes_len, const uint8_t *losses, size_t losses_len,
+                            const uint8_t *weights, size_t weights_len, struct models *models)
+{
+    size_t whole = least(least(sizes_len / 2, losses_len / 8), weights_len / 2);
+    if (sizes_len % 2 != 0 || losses_len % 8 != 0 || weights_len % 2 != 0)
         return 11;
-    models->given = sizes_len / 2 + losses_len / 8 - both;
+    models->given = most(most(sizes_len / 2, losses_len / 8), weights_len / 2);
     models->count = 0;
     if (models->given == 0)
         return 1;
     if (models->given > FOLDWIG_MAX_MODELS)
         return 2;
-    for (size_t i = 0; i < both; i++) {
-        struct foldwig_entry m = {get(sizes, 2, i), get(losses, 8, i)};
-        if (m.size == 0 || m.loss > FOLDWIG_MAX_LOSS)
+    for (size_t i = 0; i < whole; i++) {
+        struct foldwig_entry m = {get(sizes, 2, i), get(losses, 8, i), get(weights, 2, i)};
+        if (m.size == 0 || m.loss > FOLDWIG_MAX_LOSS || m.weight == 0)
             return 5;
         if (models->count > 0) {
             struct foldwig_entry last = models->at[models->count - 1];
             if (m.size <= last.size)
                 return 6;
+            if (m.weight <= last.weight)
+                return 14;
             if (m.loss > last.loss)
                 return 7;
             if (m.loss == last.loss)
@@ -47,14 +55,14 @@ static uint64_t read_models(const uint8_t *sizes, size_t sizes_len, const uint8_
         }
         models->at[models->count++] = m;
     }
-    return both < models->given ? 5 : 0;
+    return whole < models->given ? 5 : 0;
 }
 
 // Whether the breakpoint of a and b is below that of c and d, where the second of each two is the larger model.
 static int below(const struct foldwig_entry *a, const struct foldwig_entry *b, const struct foldwig_entry *c,
                  const struct foldwig_entry *d)
 {
-    return (a->loss - b->loss) * (d->size - c->size) < (c->loss - d->loss) * (b->size - a->size);
+    return (a->loss - b->loss) * (d->weight - c->weight) < (c->loss - d->loss) * (b->weight - a->weight);
 }
 
 // The update rules. The path takes the place of the models; answers the tests.
@@ -97,15 +105,16 @@ static uint64_t quadratic(struct models *models)
 
 // Builds by one of the two.
 static struct foldwig_path_result build(uint64_t (*method)(struct models *), const uint8_t *sizes, size_t sizes_len,
-                                        const uint8_t *losses, size_t losses_len, uint8_t *path_sizes, size_t path_sizes_len,
-                                        uint8_t *path_losses, size_t path_losses_len)
+                                        const uint8_t *losses, size_t losses_len, const uint8_t *weights, size_t weights_len,
+                                        uint8_t *path_sizes, size_t path_sizes_len, uint8_t *path_losses, size_t path_losses_len,
+                                        uint8_t *path_weights, size_t path_weights_len)
 {
     struct models models;
     struct foldwig_path_result result = {11, 0, 0};
-    if (path_sizes_len % 2 != 0 || path_losses_len % 8 != 0)
+    if (path_sizes_len % 2 != 0 || path_losses_len % 8 != 0 || path_weights_len % 2 != 0)
         return result;
-    result.refusal = read_models(sizes, sizes_len, losses, losses_len, &models);
-    if (result.refusal == 0 && least(path_sizes_len / 2, path_losses_len / 8) < models.given)
+    result.refusal = read_models(sizes, sizes_len, losses, losses_len, weights, weights_len, &models);
+    if (result.refusal == 0 && least(least(path_sizes_len / 2, path_losses_len / 8), path_weights_len / 2) < models.given)
         result.refusal = 9;
     if (result.refusal != 0)
         return result;
@@ -113,22 +122,29 @@ static struct foldwig_path_result build(uint64_t (*method)(struct models *), con
     result.entries = models.count;
     memset(path_sizes, 0, 2 * models.given);
     memset(path_losses, 0, 8 * models.given);
+    memset(path_weights, 0, 2 * models.given);
     for (size_t i = 0; i < models.count; i++) {
         memcpy(path_sizes + 2 * i, &models.at[i].size, 2);
         memcpy(path_losses + 8 * i, &models.at[i].loss, 8);
+        memcpy(path_weights + 2 * i, &models.at[i].weight, 2);
     }
     return result;
 }
 
 struct foldwig_path_result plain_build(const uint8_t *sizes, size_t sizes_len, const uint8_t *losses, size_t losses_len,
-                                       uint8_t *path_sizes, size_t path_sizes_len, uint8_t *path_losses, size_t path_losses_len)
+                                       const uint8_t *weights, size_t weights_len, uint8_t *path_sizes, size_t path_sizes_len,
+                                       uint8_t *path_losses, size_t path_losses_len, uint8_t *path_weights,
+                                       size_t path_weights_len)
 {
-    return build(linear, sizes, sizes_len, losses, losses_len, path_sizes, path_sizes_len, path_losses, path_losses_len);
+    return build(linear, sizes, sizes_len, losses, losses_len, weights, weights_len, path_sizes, path_sizes_len, path_losses,
+                 path_losses_len, path_weights, path_weights_len);
 }
 
 struct foldwig_path_result plain_build_quadratic(const uint8_t *sizes, size_t sizes_len, const uint8_t *losses, size_t losses_len,
-                                                 uint8_t *path_sizes, size_t path_sizes_len, uint8_t *path_losses,
-                                                 size_t path_losses_len)
+                                                 const uint8_t *weights, size_t weights_len, uint8_t *path_sizes,
+                                                 size_t path_sizes_len, uint8_t *path_losses, size_t path_losses_len,
+                                                 uint8_t *path_weights, size_t path_weights_len)
 {
-    return build(quadratic, sizes, sizes_len, losses, losses_len, path_sizes, path_sizes_len, path_losses, path_losses_len);
+    return build(quadratic, sizes, sizes_len, losses, losses_len, weights, weights_len, path_sizes, path_sizes_len, path_losses,
+                 path_losses_len, path_weights, path_weights_len);
 }

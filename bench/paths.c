@@ -10,9 +10,10 @@
 
 enum { MODELS = FOLDWIG_MAX_MODELS, PLACES = 4 * FOLDWIG_MAX_MODELS };
 
-// Models as byte strings: sizes from 1 on, and losses that fall so that all of them stay on the path.
-static uint8_t sizes[MODELS * FOLDWIG_SIZE_LEN], losses[MODELS * FOLDWIG_LOSS_LEN];
+// Models as byte strings: sizes from 1 on, weights equal to them, and losses that fall so that all of them stay on the path.
+static uint8_t sizes[MODELS * FOLDWIG_SIZE_LEN], losses[MODELS * FOLDWIG_LOSS_LEN], weights[MODELS * FOLDWIG_WEIGHT_LEN];
 static uint8_t path_sizes[PLACES * FOLDWIG_SIZE_LEN], path_losses[PLACES * FOLDWIG_LOSS_LEN];
+static uint8_t path_weights[PLACES * FOLDWIG_WEIGHT_LEN];
 
 static void put(uint8_t *bytes, size_t width, size_t i, uint64_t value)
 {
@@ -25,18 +26,21 @@ static void make_models(size_t n)
     for (size_t i = 0; i < n; i++) {
         put(sizes, FOLDWIG_SIZE_LEN, i, i + 1);
         put(losses, FOLDWIG_LOSS_LEN, i, (n - i) * (n - i));
+        put(weights, FOLDWIG_WEIGHT_LEN, i, i + 1);
     }
 }
 
 static struct foldwig_path_result build(size_t n, size_t places)
 {
-    return foldwig_build(sizes, n * FOLDWIG_SIZE_LEN, losses, n * FOLDWIG_LOSS_LEN, path_sizes, places * FOLDWIG_SIZE_LEN,
-                         path_losses, places * FOLDWIG_LOSS_LEN);
+    return foldwig_build(sizes, n * FOLDWIG_SIZE_LEN, losses, n * FOLDWIG_LOSS_LEN, weights, n * FOLDWIG_WEIGHT_LEN, path_sizes,
+                         places * FOLDWIG_SIZE_LEN, path_losses, places * FOLDWIG_LOSS_LEN, path_weights,
+                         places * FOLDWIG_WEIGHT_LEN);
 }
 
 static struct foldwig_path_result append(size_t n, size_t places)
 {
-    return foldwig_append(path_sizes, places * FOLDWIG_SIZE_LEN, path_losses, places * FOLDWIG_LOSS_LEN, n, n + 1, 0);
+    return foldwig_append(path_sizes, places * FOLDWIG_SIZE_LEN, path_losses, places * FOLDWIG_LOSS_LEN, path_weights,
+                          places * FOLDWIG_WEIGHT_LEN, n, n + 1, 0, n + 1);
 }
 
 // Times a call with n models, or on n entries, and says whether it was accepted with all of them on the path.

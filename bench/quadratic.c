@@ -14,7 +14,8 @@
 
 enum { MODELS = FOLDWIG_MAX_MODELS };
 
-typedef struct foldwig_path_result call(const uint8_t *, size_t, const uint8_t *, size_t, uint8_t *, size_t, uint8_t *, size_t);
+typedef struct foldwig_path_result call(const uint8_t *, size_t, const uint8_t *, size_t, const uint8_t *, size_t, uint8_t *, size_t,
+                                        uint8_t *, size_t, uint8_t *, size_t);
 
 enum method { LINEAR, PLAIN_LINEAR, QUADRATIC, PLAIN_QUADRATIC, METHODS };
 enum list { STAYING, DROPPED, RANDOM, LISTS };
@@ -23,11 +24,13 @@ static call *const calls[METHODS] = {foldwig_build, plain_build, foldwig_build_q
 
 static const char *const list_names[LISTS] = {"all on the path", "all but two dropped", "random"};
 
-static uint8_t sizes[MODELS * FOLDWIG_SIZE_LEN], losses[MODELS * FOLDWIG_LOSS_LEN];
+static uint8_t sizes[MODELS * FOLDWIG_SIZE_LEN], losses[MODELS * FOLDWIG_LOSS_LEN], weights[MODELS * FOLDWIG_WEIGHT_LEN];
 
 // The buffers of a path, with a place more than there are models.
 struct path {
-    uint8_t sizes[(MODELS + 1) * FOLDWIG_SIZE_LEN], losses[(MODELS + 1) * FOLDWIG_LOSS_LEN];
+    uint8_t sizes[(MODELS + 1) * FOLDWIG_SIZE_LEN];
+    uint8_t losses[(MODELS + 1) * FOLDWIG_LOSS_LEN];
+    uint8_t weights[(MODELS + 1) * FOLDWIG_WEIGHT_LEN];
 };
 
 static void put(uint8_t *bytes, size_t width, size_t i, uint64_t value)
@@ -43,13 +46,15 @@ static uint64_t random_step(uint64_t *state)
     return (*state >> 33) + 1;
 }
 
-// Makes n models of the sizes from 1 on, from the last one back. The breakpoints of two neighbours fall by 2 along a list that stays,
-// and rise by 2 along one that is dropped. A random loss is the sum of the steps up to it, so that all are within 2^44.
+// Makes n models of the sizes from 1 on, with weights equal to them, from the last one back. The breakpoints of two neighbours fall by
+// 2 along a list that stays, and rise by 2 along one that is dropped. A random loss is the sum of the steps up to it, so that all are
+// within 2^44.
 static void make_models(enum list list, size_t n)
 {
     uint64_t state = 20221110, sum = 0;
     for (size_t i = n; i-- > 0;) {
         put(sizes, FOLDWIG_SIZE_LEN, i, i + 1);
+        put(weights, FOLDWIG_WEIGHT_LEN, i, i + 1);
         put(losses, FOLDWIG_LOSS_LEN, i, list == STAYING ? (n - i) * (n - i) : list == DROPPED ? n * n - i * i : sum);
         sum += random_step(&state);
     }
@@ -57,8 +62,8 @@ static void make_models(enum list list, size_t n)
 
 static struct foldwig_path_result build(enum method method, size_t n, struct path *path)
 {
-    return calls[method](sizes, n * FOLDWIG_SIZE_LEN, losses, n * FOLDWIG_LOSS_LEN, path->sizes, sizeof path->sizes, path->losses,
-                         sizeof path->losses);
+    return calls[method](sizes, n * FOLDWIG_SIZE_LEN, losses, n * FOLDWIG_LOSS_LEN, weights, n * FOLDWIG_WEIGHT_LEN, path->sizes,
+                         sizeof path->sizes, path->losses, sizeof path->losses, path->weights, sizeof path->weights);
 }
 
 // Whether all calls leave the same bytes and answer the same number of entries, with 2 N - 1 - M tests or none by their method, and as

@@ -77,16 +77,16 @@ static double time_report(const char *program, const char *file)
 static double time_split(const int *samples)
 {
     static uint8_t scratch[FOLDWIG_SCRATCH_LEN];
-    uint8_t bytes[2 * SAMPLES], starts[2 * LIMIT], levels[2 * LIMIT], sizes[2 * LIMIT], losses[8 * LIMIT];
+    uint8_t bytes[2 * SAMPLES], starts[2 * LIMIT], levels[2 * LIMIT], sizes[2 * LIMIT], losses[8 * LIMIT], weights[2 * LIMIT];
     struct timespec a, b;
     for (int i = 0; i < SAMPLES; i++) {
         bytes[2 * i] = (uint8_t)samples[i];
         bytes[2 * i + 1] = 0;
     }
     clock_gettime(CLOCK_THREAD_CPUTIME_ID, &a);
-    struct foldwig_split_result r = foldwig_split(bytes, sizeof bytes, LIMIT, 1, 1, 2, starts, sizeof starts, levels,
-                                                  sizeof levels, sizes, sizeof sizes, losses, sizeof losses, scratch,
-                                                  sizeof scratch);
+    struct foldwig_split_result r = foldwig_split(bytes, sizeof bytes, LIMIT, 1, NULL, 0, 1, 2, starts, sizeof starts, levels,
+                                                  sizeof levels, sizes, sizeof sizes, losses, sizeof losses, weights,
+                                                  sizeof weights, scratch, sizeof scratch);
     clock_gettime(CLOCK_THREAD_CPUTIME_ID, &b);
     if (r.refusal != 0)
         exit(2);

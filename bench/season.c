@@ -30,6 +30,7 @@ struct path {
     uint64_t refusal, entries;
     uint16_t sizes[LIMIT];
     uint64_t losses[LIMIT];
+    uint16_t weights[LIMIT];
 };
 
 struct segmentation {
@@ -69,7 +70,8 @@ static void run_season(const struct signal *s, uint8_t *table, struct path *path
     for (size_t n = 0; n < s->n; n++) {
         struct foldwig_extend_result r = foldwig_extend(
             (const uint8_t *)s->samples, n * sizeof *s->samples, s->samples[n], LIMIT, table, FOLDWIG_TABLE_LEN,
-            (uint8_t *)path->sizes, sizeof path->sizes, (uint8_t *)path->losses, sizeof path->losses);
+            (uint8_t *)path->sizes, sizeof path->sizes, (uint8_t *)path->losses, sizeof path->losses, (uint8_t *)path->weights,
+            sizeof path->weights);
         path->refusal = r.refusal;
         path->entries = r.entries;
         if (r.refusal != 0)
@@ -80,8 +82,9 @@ static void run_season(const struct signal *s, uint8_t *table, struct path *path
 static void run_fresh_path(const struct signal *s, uint8_t *scratch, struct path *path)
 {
     struct foldwig_signal_path_result r = foldwig_signal_path(
-        (const uint8_t *)s->samples, s->n * sizeof *s->samples, LIMIT, 1, (uint8_t *)path->sizes, sizeof path->sizes,
-        (uint8_t *)path->losses, sizeof path->losses, scratch, FOLDWIG_SCRATCH_LEN);
+        (const uint8_t *)s->samples, s->n * sizeof *s->samples, LIMIT, 1, NULL, 0, (uint8_t *)path->sizes, sizeof path->sizes,
+        (uint8_t *)path->losses, sizeof path->losses, (uint8_t *)path->weights, sizeof path->weights, scratch,
+        FOLDWIG_SCRATCH_LEN);
     path->refusal = r.refusal;
     path->entries = r.entries;
 }
@@ -99,9 +102,9 @@ static void run_split_from(const struct signal *s, const uint8_t *table, struct 
 static void run_fresh_split(const struct signal *s, uint8_t *scratch, struct path *path, struct segmentation *to)
 {
     struct foldwig_split_result r = foldwig_split(
-        (const uint8_t *)s->samples, s->n * sizeof *s->samples, LIMIT, 1, P, Q, (uint8_t *)to->starts, sizeof to->starts,
+        (const uint8_t *)s->samples, s->n * sizeof *s->samples, LIMIT, 1, NULL, 0, P, Q, (uint8_t *)to->starts, sizeof to->starts,
         (uint8_t *)to->levels, sizeof to->levels, (uint8_t *)path->sizes, sizeof path->sizes, (uint8_t *)path->losses,
-        sizeof path->losses, scratch, FOLDWIG_SCRATCH_LEN);
+        sizeof path->losses, (uint8_t *)path->weights, sizeof path->weights, scratch, FOLDWIG_SCRATCH_LEN);
     to->refusal = r.refusal;
     to->segments = r.segments;
     to->loss = r.loss;

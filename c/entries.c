@@ -1,10 +1,10 @@
 // Compares the calls on arrays of entries with the calls on byte strings, which test.c compares with the reference. Both sides get
 // the same numbers. Afterwards every field of the answers is compared, every element of every array with the items that the byte
-// strings then hold, and the guards beside the arrays. A size of 65,536 or more has no place in two bytes and stands as 0 in the
-// byte strings, which is out of range as well; where no call writes it has to stay. The refusals are compared besides with those
-// that R36 to R41 of docs/RULES.md give, on the numbers themselves. Each build is made once more as a quadratic one, whose outcome
-// is compared besides with that of the build and with the path that the reference finds by slopes. Flat stretches, which are models
-// with equal losses, have figures of their own.
+// strings then hold, and the guards beside the arrays. A size or a weight of 65,536 or more has no place in two bytes and stands as
+// 0 in the byte strings, which is out of range as well; where no call writes it has to stay. The refusals are compared besides with
+// those that R36 to R41 of docs/RULES.md give, on the numbers themselves. Each build is made once more as a quadratic one, whose
+// outcome is compared besides with that of the build and with the path that the reference finds by slopes. Flat stretches, which
+// are models with equal losses, have figures of their own.
 // Usage: entries [SEED]
 // A seed leads to the same calls again if the same compiler is used.
 //
@@ -36,6 +36,18 @@
 //   24  a bit behind the places that a quadratic build writes is changed
 //   25  the sizes behind the path of a quadratic build are expected to be 1
 //   26  the rules have too many models of a quadratic build behind a bad one
+//   27  the size and the weight of the first entry are exchanged when they are decoded
+//   28  a weight of more than two bytes is cut to two for the byte strings
+//   29  the rules have 65,536 in the range of weights
+//   30  the rules have 14 after 7
+//   31  the rules have 14 before 6
+//   32  the rules have no 14 at a weight that equals the last entry's
+//   33  the rules have no 14 at a loss that equals the last entry's
+//   34  the rules compare a weight with that of a model that was passed over
+//   35  the rules have paths on which the weights need not rise
+//   36  the rules ask for room by tests that go by sizes
+//   37  the weight of a selection is expected to be its size
+//   38  the path by slopes is asked for with the sizes as weights
 #define _DEFAULT_SOURCE
 #include "../include/foldwig.h"
 #include "reference.h"
@@ -54,7 +66,7 @@
 #define MOST_MISMATCHES 10
 #endif
 
-enum { MOST = 4104, PAGES = 1 << 17 };
+enum { MOST = 4104, FIELDS = 3, PAGES = 1 << 17 };
 
 // A list is long if it has more models than this. One in so many of these is built by the quadratic method too.
 enum { LONG = 1000, RARE = 4 };
@@ -66,25 +78,25 @@ enum call { APPEND, BUILD, BUILD_QUADRATIC, SELECT, BREAKPOINTS, CALLS };
 
 static const char *const names[CALLS] = {"append", "build", "build_quadratic", "select", "breakpoints"};
 static const int orders[CALLS][8] = {
-    {8, 5, 6, 7, 9, 0}, {1, 2, 5, 6, 7, 9, 0}, {1, 2, 5, 6, 7, 9, 0}, {8, 10, 4, 0}, {8, 9, 0}};
+    {8, 5, 6, 14, 7, 9, 0}, {1, 2, 5, 6, 14, 7, 9, 0}, {1, 2, 5, 6, 14, 7, 9, 0}, {8, 10, 4, 0}, {8, 9, 0}};
 
-// The arrays: the path or the models that a call reads, the path that a build makes, and the breakpoints. Each has one or two
+// The arrays: the path or the models that a call reads, the path that a build makes, and the breakpoints. Each has one or three
 // numbers in an element, and for each of these an own byte string with items of a width.
 enum array { PATH, MADE, NUMERATORS, DENOMINATORS, ARRAYS };
 
-static const size_t columns[ARRAYS] = {2, 2, 1, 1};
-static const size_t widths[ARRAYS][2] = {{2, 8}, {2, 8}, {8, 0}, {2, 0}};
+static const size_t columns[ARRAYS] = {FIELDS, FIELDS, 1, 1};
+static const size_t widths[ARRAYS][FIELDS] = {{2, 8, 2}, {2, 8, 2}, {8, 0, 0}, {2, 0, 0}};
 static const int lent_to[CALLS][ARRAYS] = {{1, 0, 0, 0}, {1, 1, 0, 0}, {1, 1, 0, 0}, {1, 0, 0, 0}, {1, 0, 1, 1}};
 static const int writes[CALLS][ARRAYS] = {{1, 0, 0, 0}, {0, 1, 0, 0}, {0, 1, 0, 0}, {0, 0, 0, 0}, {0, 0, 1, 1}};
 
 // What an array holds before a call, element by element. After a call it is what the call left.
 static struct {
     size_t len;
-    uint64_t at[2 * MOST];
+    uint64_t at[FIELDS * MOST];
 } held[ARRAYS];
 
-// The arrays as they are lent, and then two byte strings for each of them.
-static struct span spans[3 * ARRAYS];
+// The arrays as they are lent, and then a byte string for each field of each of them.
+static struct span spans[(1 + FIELDS) * ARRAYS];
 
 static unsigned long calls[CALLS], mismatches;
 static unsigned long refusals[CALLS][FOLDWIG_REFUSALS];     // how often a call answered a number
@@ -115,7 +127,7 @@ static void expect(int so, const char *what)
 
 static void map_spans(void)
 {
-    for (int i = 0; i < 3 * ARRAYS; i++)
+    for (int i = 0; i < (1 + FIELDS) * ARRAYS; i++)
         map_span(&spans[i], PAGES);
 }
 
@@ -129,7 +141,7 @@ static void place(struct span *s, size_t len, size_t alignment)
 
 static struct span *byte_string(int array, size_t column)
 {
-    return &spans[ARRAYS + 2 * array + (int)column];
+    return &spans[ARRAYS + FIELDS * array + (int)column];
 }
 
 static int fits(uint64_t value, size_t width)
@@ -145,7 +157,7 @@ static void encode(int array, size_t column)
     place(s, held[array].len * width, 1);
     for (size_t i = 0; i < held[array].len; i++) {
         uint64_t value = held[array].at[columns[array] * i + column];
-        if (FAULT != 5 && !fits(value, width))
+        if (!(FAULT == 5 && column == 0) && !(FAULT == 28 && column == 2) && !fits(value, width))
             value = 0;
         for (size_t j = 0; j < width; j++)
             s->at[i * width + j] = (uint8_t)(value >> (8 * j));
@@ -184,13 +196,14 @@ static void lend(enum call call)
 // An array as the library gets it, a pointer and the number of its elements, and a byte string.
 #define ARRAY(a) spans[a].given, spans[a].len / (columns[a] * sizeof held[a].at[0])
 #define BYTES(a, c) byte_string(a, c)->given, byte_string(a, c)->len
+#define LISTS(a) BYTES(a, 0), BYTES(a, 1), BYTES(a, 2)
 
 // ---- Comparing
 
 // What a call was given beside its arrays, and what it and the call on byte strings answered.
 struct answers {
     int numbers, fields;
-    uint64_t given[3], got[4], wanted[4];
+    uint64_t given[4], got[5], wanted[5];
 };
 
 static void print_numbers(const char *what, const uint64_t *numbers, int count)
@@ -218,8 +231,10 @@ static void print_answers(enum call call, const struct answers *a, const char *w
 static uint64_t wanted_number(int array, size_t column, size_t i, size_t end)
 {
     uint64_t before = held[array].at[columns[array] * i + column], now;
-    if (FAULT == 1 && i == 0 && columns[array] == 2)
+    if (FAULT == 1 && i == 0 && columns[array] == FIELDS && column < 2)
         return decode(array, 1 - column, i);
+    if (FAULT == 27 && i == 0 && columns[array] == FIELDS && column != 1)
+        return decode(array, 2 - column, i);
     if (FAULT == 2 && i + 1 == end)
         return 0;
     if (FAULT == 8 && array >= NUMERATORS && i < end)
@@ -260,7 +275,7 @@ static void check_array(enum call call, int a, size_t end)
 static void plant_in_memory(enum call call, int refused, int passed, size_t end)
 {
     struct span *s = &spans[PATH];
-    size_t behind = 2 * end * sizeof held[MADE].at[0];
+    size_t behind = FIELDS * end * sizeof held[MADE].at[0];
     if (FAULT == 24 && call == BUILD_QUADRATIC && !refused && spans[MADE].len > behind)
         spans[MADE].at[behind] ^= 1;
     if (FAULT == 13 && guard_behind(s) > 9)
@@ -286,7 +301,7 @@ static void check(enum call call, const struct answers *a, uint64_t rule, size_t
         print_answers(call, a, "which the rules refuse otherwise; the call on byte strings");
         count_mismatch();
     }
-    if (refused && (a->got[1] | a->got[2] | a->got[3]) != 0) {
+    if (refused && (a->got[1] | a->got[2] | a->got[3] | a->got[4]) != 0) {
         print_answers(call, a, "refused, but not with zeros; the call on byte strings");
         count_mismatch();
     }
@@ -299,32 +314,60 @@ static void check(enum call call, const struct answers *a, uint64_t rule, size_t
 
 // ---- The refusals by the rules
 
-static struct foldwig_entry entry_at(int array, size_t i)
+static struct foldwig_entry weighted(uint64_t size, uint64_t loss, uint64_t weight)
 {
-    struct foldwig_entry e = {held[array].at[2 * i], held[array].at[2 * i + 1]};
+    struct foldwig_entry e = {size, loss, weight};
     return e;
 }
 
+// The model whose weight is its size.
 static struct foldwig_entry entry(uint64_t size, uint64_t loss)
 {
-    struct foldwig_entry e = {size, loss};
-    return e;
+    return weighted(size, loss, size);
 }
 
-// What a model is refused with behind a last entry, which is null if there is none: 5, 6, 7, or 0 if it is not.
+static struct foldwig_entry entry_at(int array, size_t i)
+{
+    const uint64_t *at = held[array].at + FIELDS * i;
+    return weighted(at[0], at[1], at[2]);
+}
+
+static int out_of_range(struct foldwig_entry m)
+{
+    return m.size == 0 || m.size > (FAULT == 12 ? 65536 : 65535) || m.loss > TOP || m.weight == 0 ||
+           m.weight > (FAULT == 29 ? 65536 : 65535);
+}
+
+// Whether a weight does not rise above the last entry's.
+static int weight_stays(struct foldwig_entry m, struct foldwig_entry last)
+{
+    if ((FAULT == 32 && m.weight == last.weight) || (FAULT == 33 && m.loss == last.loss))
+        return 0;
+    return m.weight <= last.weight;
+}
+
+// What a model is refused with behind a last entry, which is null if there is none: 5, 6, 14, 7, or 0 if it is not.
 static uint64_t model_refusal(struct foldwig_entry m, const struct foldwig_entry *last)
 {
-    if (m.size == 0 || m.size > (FAULT == 12 ? 65536 : 65535) || m.loss > TOP)
+    if (out_of_range(m))
         return 5;
-    if (last && m.size <= last->size)
+    if (!last)
+        return 0;
+    if (FAULT == 31 && weight_stays(m, *last))
+        return 14;
+    if (m.size <= last->size)
         return 6;
-    return last && (m.loss > last->loss || (FAULT == 15 && m.loss == last->loss)) ? 7 : 0;
+    if (FAULT == 30 && m.loss > last->loss)
+        return 7;
+    if (weight_stays(m, *last))
+        return 14;
+    return m.loss > last->loss || (FAULT == 15 && m.loss == last->loss) ? 7 : 0;
 }
 
 // What the first bad one of n models is refused with. Each is behind the last one before it that was not passed over.
 static uint64_t models_refusal(size_t n)
 {
-    struct foldwig_entry last = {0, 0};
+    struct foldwig_entry last = {0, 0, 0};
     for (size_t i = 0; i < n; i++) {
         struct foldwig_entry m = entry_at(PATH, i);
         uint64_t refusal = model_refusal(m, i > 0 ? &last : NULL);
@@ -332,6 +375,8 @@ static uint64_t models_refusal(size_t n)
             return refusal;
         if (i == 0 || m.loss < last.loss || FAULT == 16)
             last = m;
+        else if (FAULT == 34)
+            last.weight = m.weight;
     }
     return 0;
 }
@@ -342,7 +387,9 @@ static int bad_path(uint64_t n)
         return 1;
     for (size_t i = 0; i < n; i++) {
         struct foldwig_entry e = entry_at(PATH, i), before = entry_at(PATH, i > 0 ? i - 1 : 0);
-        if (model_refusal(e, NULL) != 0 || (i > 0 && (e.size <= before.size || e.loss >= before.loss)))
+        if (out_of_range(e) || (i > 0 && (e.size <= before.size || e.loss >= before.loss)))
+            return 1;
+        if (i > 0 && e.weight <= before.weight && FAULT != 35)
             return 1;
     }
     return 0;
@@ -361,12 +408,14 @@ static int test_holds(size_t i, struct foldwig_entry m)
     if (i == 0)
         return 1;
     before = entry_at(PATH, i - 1);
-    return (e.loss - m.loss) * (e.size - before.size) < (before.loss - e.loss) * (m.size - e.size);
+    if (FAULT == 36)
+        return (e.loss - m.loss) * (e.size - before.size) < (before.loss - e.loss) * (m.size - e.size);
+    return (e.loss - m.loss) * (e.weight - before.weight) < (before.loss - e.loss) * (m.weight - e.weight);
 }
 
 static uint64_t append_rule(uint64_t n, struct foldwig_entry m)
 {
-    struct foldwig_entry last = {0, 0};
+    struct foldwig_entry last = {0, 0, 0};
     uint64_t refusal;
     size_t stay = (size_t)n, room = held[PATH].len < 4096 ? held[PATH].len : 4096;
     if (bad_path(n))
@@ -425,19 +474,19 @@ static uint64_t told(uint64_t n)
     return FAULT == 9 && n > 0 ? n - 1 : n;
 }
 
-static struct foldwig_path_result compare_append(uint64_t n, uint64_t size, uint64_t loss)
+static struct foldwig_path_result compare_append(uint64_t n, struct foldwig_entry m)
 {
     struct foldwig_path_result got, wanted;
-    uint64_t rule = append_rule(n, entry(size, loss));
-    int passed = rule == 0 && passes_over(n, entry(size, loss));
+    uint64_t rule = append_rule(n, m);
+    int passed = rule == 0 && passes_over(n, m);
     lend(APPEND);
-    got = foldwig_append_entries(ARRAY(PATH), n, size, loss);
-    wanted = foldwig_append(BYTES(PATH, 0), BYTES(PATH, 1), told(n), size, loss);
-    struct answers a = {3,
+    got = foldwig_append_entries(ARRAY(PATH), n, m.size, m.loss, m.weight);
+    wanted = foldwig_append(LISTS(PATH), told(n), m.size, m.loss, m.weight);
+    struct answers a = {4,
                         3,
-                        {n, size, loss},
-                        {got.refusal, got.entries, got.tests, 0},
-                        {wanted.refusal, wanted.entries, wanted.tests + (FAULT == 3 && wanted.tests > 0), 0}};
+                        {n, m.size, m.loss, m.weight},
+                        {got.refusal, got.entries, got.tests},
+                        {wanted.refusal, wanted.entries, wanted.tests + (FAULT == 3 && wanted.tests > 0)}};
     check(APPEND, &a, rule, passed ? 0 : (size_t)(got.entries > n ? got.entries : n));
     passed_over[APPEND] += (unsigned long)passed;
     expect(!passed || (got.entries == n && got.tests == (FAULT == 18)), "a model that an append passes over");
@@ -451,12 +500,12 @@ static struct foldwig_path_result compare_build(void)
     size_t less = FAULT == 6 && held[MADE].len > 0;
     lend(BUILD);
     got = foldwig_build_entries(ARRAY(PATH), ARRAY(MADE));
-    wanted = foldwig_build(BYTES(PATH, 0), BYTES(PATH, 1), BYTES(MADE, 0) - 2 * less, BYTES(MADE, 1) - 8 * less);
+    wanted = foldwig_build(LISTS(PATH), BYTES(MADE, 0) - 2 * less, BYTES(MADE, 1) - 8 * less, BYTES(MADE, 2) - 2 * less);
     struct answers a = {0,
                         3,
-                        {0, 0, 0},
-                        {got.refusal, got.entries, got.tests, 0},
-                        {wanted.refusal, wanted.entries, wanted.tests + (FAULT == 3 && wanted.tests > 0), 0}};
+                        {0},
+                        {got.refusal, got.entries, got.tests},
+                        {wanted.refusal, wanted.entries, wanted.tests + (FAULT == 3 && wanted.tests > 0)}};
     check(BUILD, &a, rule, held[PATH].len);
     if (got.refusal == 0)
         passed_over[BUILD] += held[PATH].len - (got.tests + 1 + got.entries) / 2;
@@ -469,15 +518,18 @@ static void check_slopes(uint64_t entries)
     static struct model given[MOST], path[MOST];
     size_t n = held[PATH].len, wanted, same = 0;
     for (size_t i = 0; i < n; i++) {
-        given[i].size = held[PATH].at[2 * i];
-        given[i].loss = held[PATH].at[2 * i + 1];
+        struct foldwig_entry e = entry_at(PATH, i);
+        given[i].size = e.size;
+        given[i].loss = e.loss;
+        given[i].weight = FAULT == 38 ? e.size : e.weight;
     }
     wanted = path_by_slopes(given, FAULT == 22 && n > 1 ? n - 1 : n, path);
     for (size_t i = wanted; i < n; i++) {
-        path[i].size = FAULT == 25;
-        path[i].loss = 0;
+        struct model behind = {FAULT == 25, 0, 0};
+        path[i] = behind;
     }
-    while (same < n && held[MADE].at[2 * same] == path[same].size && held[MADE].at[2 * same + 1] == path[same].loss)
+    while (same < n && held[MADE].at[FIELDS * same] == path[same].size && held[MADE].at[FIELDS * same + 1] == path[same].loss &&
+           held[MADE].at[FIELDS * same + 2] == path[same].weight)
         same++;
     expect(entries == wanted && same == n, "the path of a quadratic build is not that by slopes");
 }
@@ -488,12 +540,12 @@ static struct foldwig_path_result compare_build_quadratic(void)
     uint64_t rule = build_quadratic_rule();
     lend(BUILD_QUADRATIC);
     got = foldwig_build_quadratic_entries(ARRAY(PATH), ARRAY(MADE));
-    wanted = foldwig_build_quadratic(BYTES(PATH, 0), BYTES(PATH, 1), BYTES(MADE, 0), BYTES(MADE, 1));
+    wanted = foldwig_build_quadratic(LISTS(PATH), LISTS(MADE));
     struct answers a = {0,
                         3,
-                        {0, 0, 0},
-                        {got.refusal, got.entries, got.tests, 0},
-                        {wanted.refusal, wanted.entries, wanted.tests, 0}};
+                        {0},
+                        {got.refusal, got.entries, got.tests},
+                        {wanted.refusal, wanted.entries, wanted.tests}};
     check(BUILD_QUADRATIC, &a, rule, held[PATH].len);
     if (got.refusal == 0 && rule == 0)
         check_slopes(got.entries);
@@ -504,9 +556,9 @@ static struct foldwig_path_result compare_build_quadratic(void)
 // the first one left, and to answer what that answered, but 0 for the tests.
 static struct foldwig_path_result compare_both_builds(void)
 {
-    static uint64_t before[2 * MOST], after[2 * MOST];
+    static uint64_t before[FIELDS * MOST], after[FIELDS * MOST];
     struct foldwig_path_result linear, quadratic;
-    size_t len = held[MADE].len * 2 * sizeof before[0];
+    size_t len = held[MADE].len * FIELDS * sizeof before[0];
     memcpy(before, held[MADE].at, len);
     linear = compare_build();
     memcpy(after, held[MADE].at, len);
@@ -534,12 +586,16 @@ static struct foldwig_select_result compare_select(uint64_t n, uint64_t p, uint6
     uint64_t rule = select_rule(n, p, q);
     lend(SELECT);
     got = foldwig_select_entries(ARRAY(PATH), n, p, q);
-    wanted = foldwig_select(BYTES(PATH, 0), BYTES(PATH, 1), told(n), p, q);
+    wanted = foldwig_select(LISTS(PATH), told(n), p, q);
+    if (FAULT == 7 && wanted.refusal == 0)
+        wanted.index++;
+    if (FAULT == 37)
+        wanted.weight = wanted.size;
     struct answers a = {3,
-                        4,
+                        5,
                         {n, p, q},
-                        {got.refusal, got.index, got.size, got.loss},
-                        {wanted.refusal, wanted.index + (FAULT == 7 && wanted.refusal == 0), wanted.size, wanted.loss}};
+                        {got.refusal, got.index, got.size, got.loss, got.weight},
+                        {wanted.refusal, wanted.index, wanted.size, wanted.loss, wanted.weight}};
     check(SELECT, &a, rule, 0);
     return got;
 }
@@ -550,8 +606,8 @@ static struct foldwig_breakpoints_result compare_breakpoints(uint64_t n)
     uint64_t rule = breakpoints_rule(n);
     lend(BREAKPOINTS);
     got = foldwig_breakpoints_entries(ARRAY(PATH), n, ARRAY(NUMERATORS), ARRAY(DENOMINATORS));
-    wanted = foldwig_breakpoints(BYTES(PATH, 0), BYTES(PATH, 1), told(n), BYTES(NUMERATORS, 0), BYTES(DENOMINATORS, 0));
-    struct answers a = {1, 2, {n, 0, 0}, {got.refusal, got.count, 0, 0}, {wanted.refusal, wanted.count, 0, 0}};
+    wanted = foldwig_breakpoints(LISTS(PATH), told(n), BYTES(NUMERATORS, 0), BYTES(DENOMINATORS, 0));
+    struct answers a = {1, 2, {n}, {got.refusal, got.count}, {wanted.refusal, wanted.count}};
     check(BREAKPOINTS, &a, rule, (size_t)got.count);
     return got;
 }
@@ -568,6 +624,16 @@ static enum shape some_shape(void)
     return (enum shape)below(SHAPES);
 }
 
+// Gives n models in order weights that rise: their sizes, or others by small or by large steps.
+static void draw_weights(size_t n)
+{
+    uint64_t way = below(3), step = way == 1 ? 4 : 65000 / (n + 1), weight = 1 + below(way == 1 ? 4 : 500);
+    for (size_t i = 0; i < n; i++) {
+        list[i].weight = way == 0 ? list[i].size : weight;
+        weight += 1 + below(step);
+    }
+}
+
 // Makes n models in order, the losses from the last one back.
 static void make_models(size_t n, enum shape shape)
 {
@@ -577,6 +643,7 @@ static void make_models(size_t n, enum shape shape)
         list[i].size = size;
         size += 1 + (shape == TIED && one_in(2) ? 0 : below(step));
     }
+    draw_weights(n);
     for (size_t i = n; i-- > 0;) {
         list[i].loss = loss;
         if (i == 0)
@@ -587,12 +654,12 @@ static void make_models(size_t n, enum shape shape)
         else if (shape == LARGE)
             loss += 1 + below(TOP / (n + 1) - 20);
         else
-            loss += (slope == 0 ? 1 : slope) * (list[i].size - list[i - 1].size);
+            loss += (slope == 0 ? 1 : slope) * (list[i].weight - list[i - 1].weight);
     }
 }
 
 // Makes flat stretches in n models in order: gives some, or all but the first, the loss of the last one that keeps its own. Now
-// and then such a model gets another size above that one's, which may be above later sizes too.
+// and then such a model gets another size or another weight above that one's, which may be above later ones too.
 static void flatten(size_t n)
 {
     struct foldwig_entry last = list[0];
@@ -605,41 +672,56 @@ static void flatten(size_t n)
         list[i].loss = last.loss;
         if (one_in(3))
             list[i].size = last.size + 1 + below(one_in(2) ? 6 : 65535 - last.size);
+        if (one_in(3))
+            list[i].weight = last.weight + 1 + below(one_in(2) ? 6 : 65535 - last.weight);
     }
 }
 
-// A size that two bytes can't hold. In most cases its low bits are those of a good one.
-static uint64_t wide(uint64_t size)
+// A size or a weight that two bytes can't hold. In most cases its low bits are those of a good one.
+static uint64_t wide(uint64_t good)
 {
     switch (below(6)) {
     case 0: return 65536;
     case 1: return UINT64_MAX - below(3);
-    case 2: return size | (uint64_t)1 << 32;
-    case 3: return size | (uint64_t)1 << 63;
-    case 4: return size + 65536 * (1 + below(9));
-    default: return size + 65536;
+    case 2: return good | (uint64_t)1 << 32;
+    case 3: return good | (uint64_t)1 << 63;
+    case 4: return good + 65536 * (1 + below(9));
+    default: return good + 65536;
     }
 }
 
-// The ways to spoil the model at a place: a size of 0 or of more than two bytes, a loss over the top, a size or a loss that does
-// not follow the last one.
-enum { DAMAGES = 9 };
+// The ways to spoil the model at a place: a size or a weight of 0 or of more than two bytes, a loss over the top, a size, a loss or
+// a weight that does not follow the last one, and several of these together.
+enum { DAMAGES = 15 };
 
 static void spoil(size_t i, int how)
 {
     const struct foldwig_entry *last = &list[i > 0 ? i - 1 : 0];
+    uint64_t size = list[i].size, loss = list[i].loss, weight = list[i].weight;
     struct foldwig_entry spoilt[DAMAGES] = {
         list[i],
-        {0, list[i].loss},
-        {list[i].size, TOP + 1},
-        {last->size, list[i].loss},
-        {last->size - 1, list[i].loss},
-        {list[i].size, last->loss},
-        {list[i].size, last->loss + 1},
-        {0, UINT64_MAX},
-        {wide(list[i].size), list[i].loss},
+        {0, loss, weight},
+        {size, TOP + 1, weight},
+        {size, loss, 0},
+        {0, UINT64_MAX, 0},
+        {wide(size), loss, weight},
+        {size, loss, wide(weight)},
+        {last->size, loss, weight},
+        {last->size - 1, loss, weight},
+        {size, last->loss, weight},
+        {size, last->loss + 1, weight},
+        {size, loss, last->weight},
+        {size, loss, last->weight - 1},
+        {size, last->loss, last->weight},
+        {last->size, last->loss + 1, last->weight},
     };
     list[i] = spoilt[how];
+}
+
+// Those of them that spoil a model with none before it.
+static int spoils_first(int how)
+{
+    return how < 7;
 }
 
 // Gives an array so many places, filled with numbers that have nothing to do with a call, now and then wide ones.
@@ -662,8 +744,9 @@ static void put_models(size_t n, size_t places)
 {
     fresh(PATH, places);
     for (size_t i = 0; i < n && i < places; i++) {
-        held[PATH].at[2 * i] = list[i].size;
-        held[PATH].at[2 * i + 1] = list[i].loss;
+        held[PATH].at[FIELDS * i] = list[i].size;
+        held[PATH].at[FIELDS * i + 1] = list[i].loss;
+        held[PATH].at[FIELDS * i + 2] = list[i].weight;
     }
 }
 
@@ -719,7 +802,7 @@ static void compare_selections(uint64_t said, size_t n)
         if (n > 1 && one_in(2)) {
             size_t i = below(n - 1), j = i + 1 + below(one_in(2) ? 1 : n - 1 - i);
             p = list[i].loss - list[j].loss;
-            q = list[j].size - list[i].size;
+            q = list[j].weight - list[i].weight;
         }
         compare_select(said, p, q);
     }
@@ -734,9 +817,9 @@ static void random_paths(int turns)
         struct foldwig_entry last, new_model;
         make_models(n, some_shape());
         last = n > 0 ? list[n - 1] : entry(0, TOP);
-        new_model = entry(last.size + 1 + below(4), last.loss > 0 ? last.loss - 1 - below(last.loss < 9 ? last.loss : 9) : 0);
-        if (one_in(4))
-            new_model.loss = last.loss;
+        new_model = weighted(last.size + 1 + below(4), last.loss, last.weight + 1 + below(one_in(3) ? 400 : 4));
+        if (last.loss > 0 && !one_in(4))
+            new_model.loss -= 1 + below(last.loss < 9 ? last.loss : 9);
         if (n > 0 && one_in(4))
             spoil(below(n), (int)below(DAMAGES));
         put_models(n, len);
@@ -747,7 +830,9 @@ static void random_paths(int turns)
             new_model.size = one_in(2) ? wide(new_model.size) : some_number(65535);
         if (one_in(6))
             new_model.loss = some_number(TOP);
-        compare_append(said, new_model.size, new_model.loss);
+        if (one_in(6))
+            new_model.weight = one_in(2) ? wide(new_model.weight) : one_in(2) ? last.weight : some_number(65535);
+        compare_append(said, new_model);
     }
 }
 
@@ -779,14 +864,16 @@ static uint64_t begin_history(size_t places, size_t *accepted, uint64_t *tests)
 static struct foldwig_path_result go_on(uint64_t entries, struct foldwig_entry *m)
 {
     struct foldwig_entry last = entries > 0 ? entry_at(PATH, (size_t)entries - 1) : entry(0, 80 + below(300));
-    *m = entry(last.size + 1 + (one_in(3) ? below(3) : 0), last.loss);
+    *m = weighted(last.size + 1 + (one_in(3) ? below(3) : 0), last.loss, last.weight + 1 + below(one_in(8) ? 90 : 3));
     if (m->loss > 0 && !one_in(3))
         m->loss -= 1 + below(m->loss < 6 ? m->loss : 6);
     if (one_in(10))
         m->size = one_in(2) ? last.size : one_in(2) ? wide(m->size) : some_number(65535);
     if (one_in(10))
         m->loss = one_in(2) ? last.loss : some_number(TOP);
-    return compare_append(entries, m->size, m->loss);
+    if (one_in(10))
+        m->weight = one_in(2) ? last.weight : one_in(2) ? wide(m->weight) : some_number(65535);
+    return compare_append(entries, *m);
 }
 
 // How many of the accepted models in the list were tried and not passed over: those with a smaller loss than the model before.
@@ -801,7 +888,7 @@ static size_t tried(size_t accepted)
 // A build of the accepted models gives the path of the history, and as many tests.
 static void check_history(uint64_t entries, size_t accepted, uint64_t tests)
 {
-    static uint64_t path[2 * MOST];
+    static uint64_t path[FIELDS * MOST];
     struct foldwig_path_result r;
     memcpy(path, held[PATH].at, sizeof path);
     put_models(accepted, accepted);
@@ -809,7 +896,8 @@ static void check_history(uint64_t entries, size_t accepted, uint64_t tests)
     r = compare_builds();
     expect(r.refusal == (accepted == 0), "a build of the models that a history accepted is refused");
     expect(r.entries == entries && r.tests == tests, "a build of the models of a history answers something else");
-    expect(memcmp(held[MADE].at, path, (size_t)entries * 2 * sizeof path[0]) == 0, "a build makes another path than a history");
+    expect(memcmp(held[MADE].at, path, (size_t)entries * FIELDS * sizeof path[0]) == 0,
+           "a build makes another path than a history");
     expect(accepted == 0 || tests == 2 * tried(accepted) - 1 - entries, "the tests of a history are not 2N - 1 - M");
     memcpy(held[PATH].at, path, sizeof path);
     held[PATH].len = (size_t)entries;
@@ -850,11 +938,11 @@ enum { SAYINGS = 6 };
 // A path of n entries whose last but one or last is perhaps spoilt.
 static void small_path(size_t n, int damage)
 {
-    static const struct foldwig_entry path[] = {{10, 400}, {20, 300}, {30, 250}, {40, 220}};
+    static const struct foldwig_entry path[] = {{10, 400, 3}, {20, 300, 50}, {30, 250, 90}, {40, 220, 200}};
     memcpy(list, path, sizeof path);
     if (n > 1)
-        spoil(n - 2 + (damage > 2), damage);
-    else if (n == 1 && (damage == 1 || damage == 2 || damage > 6))
+        spoil(n - 2 + !spoils_first(damage), damage);
+    else if (n == 1 && spoils_first(damage))
         spoil(0, damage);
 }
 
@@ -863,11 +951,12 @@ static void meet_append(size_t n, int damage, int saying, size_t room)
     struct foldwig_entry last;
     small_path(n, damage);
     last = n > 0 ? list[n - 1] : entry(10, 400);
-    for (int i = 0; i < 56; i++) {
+    for (int i = saying == 0 && damage == 0 ? 0 : (int)below(8); i < 8 * 7 * 8; i += saying == 0 && damage == 0 ? 1 : 8) {
         uint64_t sizes[] = {last.size + 9, last.size, last.size - 1, 0, 65536, UINT64_MAX, 65535, last.size + 65545};
         uint64_t losses[] = {last.loss - 1, last.loss, last.loss + 1, TOP + 1, UINT64_MAX, TOP, 0};
+        uint64_t weights[] = {last.weight + 9, last.weight, last.weight - 1, 0, 65536, UINT64_MAX, 65535, last.weight + 65545};
         put_models(n, n + room);
-        compare_append(said_entries(saying, n, n + room), sizes[i / 7], losses[i % 7]);
+        compare_append(said_entries(saying, n, n + room), weighted(sizes[(i / 8 + i) % 8], losses[i / 8 % 7], weights[i / 56]));
     }
 }
 
@@ -924,85 +1013,143 @@ static void meet_builds(void)
         }
 }
 
-// ---- Sizes of more than two bytes
+// ---- Sizes and weights of more than two bytes
 
-// Such a size on a path gives 8, whatever else is wrong.
-static void wide_on_path(size_t n, size_t at)
+// The number of a model that is made wide.
+enum field { SIZE, WEIGHT };
+
+static uint64_t *number(struct foldwig_entry *e, enum field field)
 {
-    list[at].size = wide(list[at].size);
+    return field == SIZE ? &e->size : &e->weight;
+}
+
+// A model with a wide number.
+static struct foldwig_entry widened(struct foldwig_entry m, enum field field)
+{
+    *number(&m, field) = wide(*number(&m, field));
+    return m;
+}
+
+// Such a number on a path gives 8, whatever else is wrong.
+static void wide_on_path(size_t n, size_t at, enum field field)
+{
+    struct foldwig_entry m = weighted(some_number(65535), some_number(TOP), some_number(65535));
+    list[at] = widened(list[at], field);
     put_models(n, n + below(3));
-    expect(compare_select(n, some_number(TOP), some_number(65535)).refusal == 8, "a selection from a path with a wide size");
+    expect(compare_select(n, some_number(TOP), some_number(65535)).refusal == 8, "a selection from a path with a wide number");
     fresh_breakpoints(about(n - 1), about(n - 1));
-    expect(compare_breakpoints(n).refusal == 8, "breakpoints of a path with a wide size");
-    expect(compare_append(n, some_number(65535), some_number(TOP)).refusal == 8, "an append to a path with a wide size");
-    expect(compare_append(n, wide(1), some_number(TOP)).refusal == 8, "an append of a wide size to a path with one");
-    expect(compare_append(n, wide(list[at].size), 0).refusal == 8, "an append of a wider size to a path with a wide one");
+    expect(compare_breakpoints(n).refusal == 8, "breakpoints of a path with a wide number");
+    expect(compare_append(n, m).refusal == 8, "an append to a path with a wide number");
+    expect(compare_append(n, widened(m, field)).refusal == 8, "an append of a wide number to a path with one");
+    expect(compare_append(n, widened(list[at], field)).refusal == 8, "an append of a wider number to a path with a wide one");
 }
 
 // Behind the entries that are said it plays no part.
-static void wide_behind_path(size_t n, size_t at)
+static void wide_behind_path(size_t n, size_t at, enum field field)
 {
     struct foldwig_entry m = list[at];
-    list[at].size = wide(list[at].size);
+    list[at] = widened(list[at], field);
     put_models(n, n);
-    expect(compare_select(at, 1, 1).refusal == (at == 0 ? 10 : 0), "a selection from a path with a wide size behind it");
+    expect(compare_select(at, 1, 1).refusal == (at == 0 ? 10 : 0), "a selection from a path with a wide number behind it");
     fresh_breakpoints(at, at);
-    expect(compare_breakpoints(at).refusal == 0, "breakpoints of a path with a wide size behind it");
-    expect(compare_append(at, m.size, m.loss).refusal == 0, "an append in front of a wide size");
+    expect(compare_breakpoints(at).refusal == 0, "breakpoints of a path with a wide number behind it");
+    expect(compare_append(at, m).refusal == 0, "an append in front of a wide number");
 }
 
-// As a new size it gives 5, before 6, 7 and 9.
-static void wide_new_model(size_t n)
+// In a new model it gives 5, before 6, 14, 7 and 9.
+static void wide_new_model(size_t n, enum field field)
 {
-    uint64_t losses[] = {0, list[n - 1].loss, list[n - 1].loss + 1, TOP + 1};
+    struct foldwig_entry last = list[n - 1];
+    uint64_t losses[] = {0, last.loss, last.loss + 1, TOP + 1};
     for (int i = 0; i < 4; i++) {
         put_models(n, n + below(2));
-        expect(compare_append(n, wide(list[n - 1].size + 1), losses[i]).refusal == 5, "an append of a wide size");
-        expect(compare_append(0, wide(1), losses[i]).refusal == 5, "an append of a wide size to an empty path");
+        expect(compare_append(n, widened(weighted(last.size + 1, losses[i], last.weight + 1), field)).refusal == 5,
+               "an append of a wide number");
+        expect(compare_append(n, widened(weighted(last.size, losses[i], last.weight), field)).refusal == 5,
+               "an append of a wide number beside one that does not rise");
+        expect(compare_append(0, widened(entry(1, losses[i]), field)).refusal == 5, "an append of a wide number to an empty path");
     }
     fresh(PATH, 0);
-    expect(compare_append(0, wide(1), 0).refusal == 5, "an append of a wide size to no places");
+    expect(compare_append(0, widened(entry(1, 0), field)).refusal == 5, "an append of a wide number to no places");
 }
 
 // In a build it gives 5 at its place: before what is wrong with the models behind it and with the room, after what is wrong with
 // those before it.
-static void wide_in_build(size_t n, size_t at)
+static void wide_in_build(size_t n, size_t at, enum field field)
 {
-    struct foldwig_entry kept;
-    list[at].size = wide(list[at].size);
+    struct foldwig_entry kept, before;
+    list[at] = widened(list[at], field);
     put_models(n, n);
     fresh(MADE, about(n));
-    expect(compare_builds().refusal == 5, "a build with a wide size");
+    expect(compare_builds().refusal == 5, "a build with a wide number");
     if (at + 1 < n)
-        list[at + 1] = one_in(2) ? entry(0, 0) : list[at];
+        list[at + 1] = one_in(2) ? weighted(0, 0, 0) : list[at];
     put_models(n, n);
-    expect(compare_builds().refusal == 5, "a build with a wide size before another bad model");
+    expect(compare_builds().refusal == 5, "a build with a wide number before another bad model");
     if (at < 2)
         return;
     kept = list[at - 1];
-    list[at - 1].size = list[at - 2].size;
+    before = list[at - 2];
+    list[at - 1].size = before.size;
     put_models(n, n);
-    expect(compare_builds().refusal == 6, "a build with a wide size behind a size that is not larger");
-    list[at - 1] = entry(kept.size, list[at - 2].loss);
+    expect(compare_builds().refusal == 6, "a build with a wide number behind a size that is not larger");
+    list[at - 1] = weighted(kept.size, kept.loss, before.weight);
     put_models(n, n);
-    expect(compare_builds().refusal == 5, "a build with a wide size behind a model that is passed over");
-    list[at - 1] = entry(kept.size, list[at - 2].loss + 1);
+    expect(compare_builds().refusal == 14, "a build with a wide number behind a weight that is not larger");
+    list[at - 1] = weighted(kept.size, before.loss, kept.weight);
     put_models(n, n);
-    expect(compare_builds().refusal == 7, "a build with a wide size behind a loss that is larger");
+    expect(compare_builds().refusal == 5, "a build with a wide number behind a model that is passed over");
+    list[at - 1] = weighted(kept.size, before.loss + 1, kept.weight);
+    put_models(n, n);
+    expect(compare_builds().refusal == 7, "a build with a wide number behind a loss that is larger");
 }
 
-static void wide_sizes(int turns)
+static void wide_numbers(int turns)
 {
     for (int turn = 0; turn < turns; turn++) {
         size_t n = one_in(200) ? 4095 + below(2) : 1 + below(40), at = one_in(3) ? n - 1 : below(n);
+        enum field field = turn % 2 == 0 ? SIZE : WEIGHT;
         make_models(n, some_shape());
-        wide_new_model(n);
-        wide_behind_path(n, at);
+        wide_new_model(n, field);
+        wide_behind_path(n, at, field);
         make_models(n, some_shape());
-        wide_on_path(n, at);
+        wide_on_path(n, at, field);
         make_models(n, some_shape());
-        wide_in_build(n, at);
+        wide_in_build(n, at, field);
     }
+}
+
+// ---- Weights that do not rise
+
+// Among n models one weight, at each place in turn, equals the one before or is below it: 14 in a build and in an append, 8 on a
+// path.
+static void every_neighbour(void)
+{
+    for (size_t n = 2; n <= 9; n++)
+        for (size_t i = 1; i < n; i++)
+            for (uint64_t less = 0; less < 3; less++) {
+                make_models(n, some_shape());
+                for (size_t j = 0; j < n; j++) {
+                    list[j].loss += 9;
+                    list[j].weight += 2;
+                }
+                list[i].weight = list[i - 1].weight - (less < 2 ? less : list[i - 1].weight - 1);
+                put_models(i, n);
+                expect(compare_append(i, list[i]).refusal == 14, "an append whose weight does not rise");
+                expect(compare_append(i, weighted(list[i].size, list[i - 1].loss, list[i].weight)).refusal == 14,
+                       "an append with the last loss whose weight does not rise");
+                expect(compare_append(i, weighted(list[i].size, TOP, list[i].weight)).refusal == 14,
+                       "an append with a larger loss whose weight does not rise");
+                put_models(n, n);
+                fresh(MADE, n);
+                expect(compare_builds().refusal == 14, "a build with a weight that does not rise");
+                for (size_t said = 1; said <= n; said++)
+                    expect(compare_select(said, 1, 1).refusal == (said > i ? 8 : 0),
+                           "a selection from a path with a weight that does not rise");
+                fresh_breakpoints(n, n);
+                expect(compare_breakpoints(n).refusal == 8, "breakpoints of a path with a weight that does not rise");
+                expect(compare_append(n, entry(65535, 0)).refusal == 8, "an append to a path with a weight that does not rise");
+            }
 }
 
 // ---- Limits
@@ -1042,12 +1189,12 @@ static void paths_at_limit(enum shape shape)
         compare_select(said, below(3), 1);
         fresh_breakpoints(room, one_in(2) ? room : 4096);
         compare_breakpoints(said);
-        compare_append(said, last.size + 1, last.loss - 1);
+        compare_append(said, weighted(last.size + 1, last.loss - 1, last.weight + 1));
         put_models(n, n);
-        compare_append(said, last.size + 1, last.loss);
-        compare_append(said, 65535, 0);
+        compare_append(said, weighted(last.size + 1, last.loss, last.weight + 1));
+        compare_append(said, entry(65535, 0));
         put_models(MOST, MOST);
-        compare_append(said, last.size + 1, last.loss > 900 ? last.loss - 900 : 0);
+        compare_append(said, weighted(last.size + 1, last.loss > 900 ? last.loss - 900 : 0, last.weight + 1));
     }
 }
 
@@ -1059,13 +1206,13 @@ static void fill_up(void)
         list[i] = entry(i + 1, 10000 + (MOST - i) * (MOST - i));
     put_models((size_t)n, MOST);
     for (; n < 4096; n++) {
-        expect(compare_append(n, list[n].size, list[n].loss).entries == n + 1, "an append that drops nothing");
-        expect(compare_append(n + 1, 65535, list[n].loss).entries == n + 1, "an append that is passed over");
+        expect(compare_append(n, list[n]).entries == n + 1, "an append that drops nothing");
+        expect(compare_append(n + 1, entry(65535, list[n].loss)).entries == n + 1, "an append that is passed over");
     }
-    expect(compare_append(n, list[n].size, list[n].loss).refusal == 9, "an append to a full path");
-    n = compare_append(n, 4097, 0).entries;
+    expect(compare_append(n, list[n]).refusal == 9, "an append to a full path");
+    n = compare_append(n, entry(4097, 0)).entries;
     expect(n > 0 && n < 4096, "an append to a full path that drops entries");
-    compare_append(n, 65535, 0);
+    compare_append(n, entry(65535, 0));
 }
 
 // ---- Figures of flat stretches
@@ -1075,7 +1222,7 @@ static int holds_path(int array, const struct foldwig_entry *path, size_t entrie
 {
     for (size_t i = 0; i < end; i++) {
         struct foldwig_entry wanted = i < entries ? path[i] : entry(0, 0), e = entry_at(array, i);
-        if (e.size != wanted.size || e.loss != wanted.loss)
+        if (e.size != wanted.size || e.loss != wanted.loss || e.weight != wanted.weight)
             return 0;
     }
     return 1;
@@ -1104,20 +1251,30 @@ static const struct {
     struct foldwig_entry path[3];
     uint64_t tests;
 } flat_builds[] = {
-    {"the first model twice", 2, {{1, 5}, {1, 5}}, 6, 0, {{0, 0}}, 0},
-    {"the first loss twice", 2, {{1, 5}, {2, 5}}, 0, 1, {{1, 5}}, 0},
-    {"a passed-over model twice", 3, {{1, 5}, {2, 5}, {2, 5}}, 0, 1, {{1, 5}}, 0},
-    {"a size below a passed-over one", 3, {{1, 5}, {3, 5}, {2, 4}}, 0, 2, {{1, 5}, {2, 4}}, 1},
-    {"a size that was passed over", 3, {{1, 5}, {3, 5}, {3, 4}}, 0, 2, {{1, 5}, {3, 4}}, 1},
-    {"the last entry's size and loss", 3, {{2, 5}, {4, 5}, {2, 5}}, 6, 0, {{0, 0}}, 0},
-    {"the last entry's size, a smaller loss", 3, {{2, 5}, {4, 5}, {2, 4}}, 6, 0, {{0, 0}}, 0},
-    {"a smaller size, the last entry's loss", 3, {{2, 5}, {4, 5}, {1, 5}}, 6, 0, {{0, 0}}, 0},
-    {"a wide size, the last entry's loss", 3, {{2, 5}, {4, 5}, {65539, 5}}, 5, 0, {{0, 0}}, 0},
-    {"a larger loss below a passed-over size", 3, {{1, 5}, {3, 5}, {2, 6}}, 7, 0, {{0, 0}}, 0},
+    {"the first model twice", 2, {{1, 5, 1}, {1, 5, 1}}, 6, 0, {{0, 0, 0}}, 0},
+    {"the first loss twice", 2, {{1, 5, 1}, {2, 5, 2}}, 0, 1, {{1, 5, 1}}, 0},
+    {"a passed-over model twice", 3, {{1, 5, 1}, {2, 5, 2}, {2, 5, 2}}, 0, 1, {{1, 5, 1}}, 0},
+    {"a size below a passed-over one", 3, {{1, 5, 1}, {3, 5, 3}, {2, 4, 2}}, 0, 2, {{1, 5, 1}, {2, 4, 2}}, 1},
+    {"a size that was passed over", 3, {{1, 5, 1}, {3, 5, 3}, {3, 4, 3}}, 0, 2, {{1, 5, 1}, {3, 4, 3}}, 1},
+    {"the last entry's size and loss", 3, {{2, 5, 2}, {4, 5, 4}, {2, 5, 2}}, 6, 0, {{0, 0, 0}}, 0},
+    {"the last entry's size, a smaller loss", 3, {{2, 5, 2}, {4, 5, 4}, {2, 4, 2}}, 6, 0, {{0, 0, 0}}, 0},
+    {"a smaller size, the last entry's loss", 3, {{2, 5, 2}, {4, 5, 4}, {1, 5, 1}}, 6, 0, {{0, 0, 0}}, 0},
+    {"a wide size, the last entry's loss", 3, {{2, 5, 2}, {4, 5, 4}, {65539, 5, 9}}, 5, 0, {{0, 0, 0}}, 0},
+    {"a larger loss below a passed-over size", 3, {{1, 5, 1}, {3, 5, 3}, {2, 6, 2}}, 7, 0, {{0, 0, 0}}, 0},
     // The models 1, 2 and 3 with the losses 7, 4 and 0, each followed by one that is passed over: 1 test, then 2.
-    {"a test that fails", 6, {{1, 7}, {2, 7}, {2, 4}, {5, 4}, {3, 0}, {4, 0}}, 0, 2, {{1, 7}, {3, 0}}, 3},
+    {"a test that fails", 6, {{1, 7, 1}, {2, 7, 2}, {2, 4, 2}, {5, 4, 5}, {3, 0, 3}, {4, 0, 4}}, 0, 2, {{1, 7, 1}, {3, 0, 3}}, 3},
     // The losses 7, 4 and 2: 1 test, then 1.
-    {"tests that hold", 6, {{1, 7}, {9, 7}, {2, 4}, {8, 4}, {7, 4}, {3, 2}}, 0, 3, {{1, 7}, {2, 4}, {3, 2}}, 2},
+    {"tests that hold", 6, {{1, 7, 1}, {9, 7, 9}, {2, 4, 2}, {8, 4, 8}, {7, 4, 7}, {3, 2, 3}}, 0, 3,
+     {{1, 7, 1}, {2, 4, 2}, {3, 2, 3}}, 2},
+    {"the first loss and weight twice", 2, {{1, 5, 4}, {2, 5, 4}}, 14, 0, {{0, 0, 0}}, 0},
+    {"the first loss, a larger weight", 2, {{1, 5, 4}, {2, 5, 5}}, 0, 1, {{1, 5, 4}}, 0},
+    {"the first weight, a larger loss", 2, {{1, 5, 4}, {2, 6, 4}}, 14, 0, {{0, 0, 0}}, 0},
+    {"the first size and weight, a larger loss", 2, {{1, 5, 4}, {1, 6, 4}}, 6, 0, {{0, 0, 0}}, 0},
+    {"a weight below a passed-over one", 3, {{1, 5, 2}, {2, 5, 9}, {3, 4, 3}}, 0, 2, {{1, 5, 2}, {3, 4, 3}}, 1},
+    {"the last entry's weight", 3, {{1, 5, 2}, {2, 5, 9}, {3, 4, 2}}, 14, 0, {{0, 0, 0}}, 0},
+    {"a wide weight, the last entry's loss", 3, {{1, 5, 2}, {2, 5, 9}, {3, 5, 65546}}, 5, 0, {{0, 0, 0}}, 0},
+    // By the weights 2, 3 and 7 the breakpoints are 3/1 and 4/4.
+    {"weights by which a test holds", 3, {{1, 7, 2}, {2, 4, 3}, {3, 0, 7}}, 0, 3, {{1, 7, 2}, {2, 4, 3}, {3, 0, 7}}, 2},
 };
 
 static void flat_build_figures(void)
@@ -1165,15 +1322,17 @@ static const struct {
     size_t entries;
     struct foldwig_entry path[4];
 } quadratic_builds[] = {
-    {"one model", 1, {{7, 9}}, 1, {{7, 9}}},
+    {"one model", 1, {{7, 9, 7}}, 1, {{7, 9, 7}}},
     // From size 5 only 7 / 3.
-    {"two models", 2, {{2, 9}, {5, 2}}, 2, {{2, 9}, {5, 2}}},
+    {"two models", 2, {{2, 9, 2}, {5, 2, 5}}, 2, {{2, 9, 2}, {5, 2, 5}}},
     // From size 5: 4 / 4, 3 / 3, 2 / 2 and 1 / 1.
-    {"all on one line", 5, {{1, 4}, {2, 3}, {3, 2}, {4, 1}, {5, 0}}, 2, {{1, 4}, {5, 0}}},
+    {"all on one line", 5, {{1, 4, 1}, {2, 3, 2}, {3, 2, 3}, {4, 1, 4}, {5, 0, 5}}, 2, {{1, 4, 1}, {5, 0, 5}}},
     // From size 6: 14 / 5, 6 / 4, 4 / 3, 2 / 2 and 1 / 1. From size 4: 12 / 3, 4 / 2 and 2 / 1. From size 2: 8 / 1.
-    {"two lines", 6, {{1, 14}, {2, 6}, {3, 4}, {4, 2}, {5, 1}, {6, 0}}, 4, {{1, 14}, {2, 6}, {4, 2}, {6, 0}}},
+    {"two lines", 6, {{1, 14, 1}, {2, 6, 2}, {3, 4, 3}, {4, 2, 4}, {5, 1, 5}, {6, 0, 6}}, 4,
+     {{1, 14, 1}, {2, 6, 2}, {4, 2, 4}, {6, 0, 6}}},
     // Size 4 with the loss 4 and size 9 are passed over. From size 5: 7 / 4, 4 / 3 and 2 / 1. From size 2: 3 / 1.
-    {"the largest size passed over", 6, {{1, 7}, {2, 4}, {4, 4}, {4, 2}, {5, 0}, {9, 0}}, 3, {{1, 7}, {2, 4}, {5, 0}}},
+    {"the largest size passed over", 6, {{1, 7, 1}, {2, 4, 2}, {4, 4, 4}, {4, 2, 4}, {5, 0, 5}, {9, 0, 9}}, 3,
+     {{1, 7, 1}, {2, 4, 2}, {5, 0, 5}}},
 };
 
 static void quadratic_figures(void)
@@ -1208,40 +1367,43 @@ static void long_quadratic_figures(void)
 // Appends to a path that fills its array, and then to a full path of 4,096 entries whose breakpoints fall, from 8,191 down to 3.
 static void full_append_figures(void)
 {
-    static const struct foldwig_entry two[] = {{1, 7}, {2, 4}};
+    static const struct foldwig_entry two[] = {{1, 7, 1}, {2, 4, 2}};
     memcpy(list, two, sizeof two);
     put_models(2, 2);
-    expect(answers(compare_append(2, 3, 4), 0, 2, 0), "the last loss, to a full array");
-    expect(answers(compare_append(2, 65535, 4), 0, 2, 0), "the last loss with the largest size, to a full array");
-    expect(answers(compare_append(2, 65536, 4), 5, 0, 0), "the last loss with a wide size, to a full array");
-    expect(answers(compare_append(2, 2, 4), 6, 0, 0), "the last loss with the last size, to a full array");
-    expect(answers(compare_append(2, 3, 5), 7, 0, 0), "a larger loss, to a full array");
-    expect(answers(compare_append(2, 3, 2), 9, 0, 0), "a smaller loss that drops nothing, to a full array");
+    expect(answers(compare_append(2, entry(3, 4)), 0, 2, 0), "the last loss, to a full array");
+    expect(answers(compare_append(2, entry(65535, 4)), 0, 2, 0), "the last loss with the largest size, to a full array");
+    expect(answers(compare_append(2, weighted(65536, 4, 9)), 5, 0, 0), "the last loss with a wide size, to a full array");
+    expect(answers(compare_append(2, entry(2, 4)), 6, 0, 0), "the last loss with the last size, to a full array");
+    expect(answers(compare_append(2, weighted(3, 4, 65536)), 5, 0, 0), "the last loss with a wide weight, to a full array");
+    expect(answers(compare_append(2, weighted(3, 4, 2)), 14, 0, 0), "the last loss with the last weight, to a full array");
+    expect(answers(compare_append(2, weighted(3, 5, 2)), 14, 0, 0), "a larger loss with the last weight, to a full array");
+    expect(answers(compare_append(2, entry(3, 5)), 7, 0, 0), "a larger loss, to a full array");
+    expect(answers(compare_append(2, entry(3, 2)), 9, 0, 0), "a smaller loss that drops nothing, to a full array");
     expect(holds_path(PATH, two, 2, 2), "a full array after appends that leave it");
     for (uint64_t i = 0; i < 4096; i++)
         list[i] = entry(i + 1, 100 + (4096 - i) * (4096 - i));
     for (size_t places = 4096; places <= 4097; places++) {
         put_models(4096, places);
-        expect(answers(compare_append(4096, 4097, 101), 0, 4096, 0), "the last loss, to 4,096 entries");
-        expect(answers(compare_append(4096, 65535, 101), 0, 4096, 0), "the last loss with the largest size, to 4,096 entries");
-        expect(answers(compare_append(4096, 4096, 101), 6, 0, 0), "the last loss with the last size, to 4,096 entries");
-        expect(answers(compare_append(4096, 4097, 102), 7, 0, 0), "a larger loss, to 4,096 entries");
-        expect(answers(compare_append(4096, 4097, 100), 9, 0, 0), "a smaller loss that drops nothing, to 4,096 entries");
+        expect(answers(compare_append(4096, entry(4097, 101)), 0, 4096, 0), "the last loss, to 4,096 entries");
+        expect(answers(compare_append(4096, entry(65535, 101)), 0, 4096, 0), "the last loss, the largest size, to 4,096 entries");
+        expect(answers(compare_append(4096, entry(4096, 101)), 6, 0, 0), "the last loss with the last size, to 4,096 entries");
+        expect(answers(compare_append(4096, entry(4097, 102)), 7, 0, 0), "a larger loss, to 4,096 entries");
+        expect(answers(compare_append(4096, entry(4097, 100)), 9, 0, 0), "a smaller loss that drops nothing, to 4,096 entries");
         expect(holds_path(PATH, list, 4096, 4096), "4,096 entries after appends that leave them");
-        expect(answers(compare_append(4096, 4097, 98), 0, 4096, 2), "a smaller loss that drops an entry of 4,096");
+        expect(answers(compare_append(4096, entry(4097, 98)), 0, 4096, 2), "a smaller loss that drops an entry of 4,096");
     }
 }
 
 // A history: an entry, one that is passed over, one of a smaller size than that, one that is passed over and one that drops.
 static void flat_history_figure(void)
 {
-    static const struct foldwig_entry path[] = {{1, 5}, {3, 0}};
+    static const struct foldwig_entry path[] = {{1, 5, 1}, {3, 0, 3}};
     fresh(PATH, 2);
-    expect(answers(compare_append(0, 1, 5), 0, 1, 0), "a first append");
-    expect(answers(compare_append(1, 3, 5), 0, 1, 0), "an append that is passed over");
-    expect(answers(compare_append(1, 2, 4), 0, 2, 1), "an append of a smaller size than the one passed over");
-    expect(answers(compare_append(2, 65535, 4), 0, 2, 0), "a second append that is passed over");
-    expect(answers(compare_append(2, 3, 0), 0, 2, 2) && holds_path(PATH, path, 2, 2), "an append that drops an entry");
+    expect(answers(compare_append(0, entry(1, 5)), 0, 1, 0), "a first append");
+    expect(answers(compare_append(1, entry(3, 5)), 0, 1, 0), "an append that is passed over");
+    expect(answers(compare_append(1, entry(2, 4)), 0, 2, 1), "an append of a smaller size than the one passed over");
+    expect(answers(compare_append(2, entry(65535, 4)), 0, 2, 0), "a second append that is passed over");
+    expect(answers(compare_append(2, entry(3, 0)), 0, 2, 2) && holds_path(PATH, path, 2, 2), "an append that drops an entry");
 }
 
 static void flat_figures(void)
@@ -1260,7 +1422,7 @@ static void append_at_limit(void)
     for (size_t i = 0; i < 4096; i++)
         list[i] = entry(i + 1, (4096 - i) * (4096 - i));
     put_models(4095, 4096);
-    expect(compare_append(4095, 4096, 1).entries == 4096, "an append to 4,095 entries on a small stack");
+    expect(compare_append(4095, entry(4096, 1)).entries == 4096, "an append to 4,095 entries on a small stack");
 }
 
 static void build_at_limit(void)
@@ -1292,7 +1454,7 @@ static void breakpoints_at_limit(void)
 static void wide_lengths(void)
 {
     size_t len = ((size_t)1 << 32) + 1;
-    struct foldwig_entry two[2] = {{0, 0}, {0, 0}};
+    struct foldwig_entry two[2] = {{0, 0, 0}, {0, 0, 0}};
     uint64_t a[1] = {0}, b[1] = {0};
     struct foldwig_entry *e =
         mmap(NULL, len * sizeof *e, PROT_READ | PROT_WRITE, MAP_PRIVATE | MAP_ANONYMOUS | MAP_NORESERVE, -1, 0);
@@ -1300,18 +1462,20 @@ static void wide_lengths(void)
         printf("no address space for lengths over 32 bits: left out\n");
         return;
     }
-    expect(foldwig_append_entries(e, len, 0, 513, 7).entries == 1 && e[0].size == 513 && e[0].loss == 7, "an append in 64 GB");
-    expect(foldwig_append_entries(e, len, 1, 600, 3).entries == 2 && e[1].size == 600 && e[1].loss == 3, "a second one");
+    expect(foldwig_append_entries(e, len, 0, 513, 7, 258).entries == 1 && e[0].size == 513 && e[0].loss == 7 && e[0].weight == 258,
+           "an append in 96 GB");
+    expect(foldwig_append_entries(e, len, 1, 600, 3, 300).entries == 2 && e[1].size == 600 && e[1].loss == 3 && e[1].weight == 300,
+           "a second one");
     expect(foldwig_select_entries(e, len, len, 1, 1).refusal == 8, "a path of 2^32 + 1 entries");
-    expect(foldwig_select_entries(e, len, 2, 0, 1).index == 1, "a selection in 64 GB");
-    expect(foldwig_breakpoints_entries(e, len, 2, a, 1, b, 1).count == 1 && a[0] == 4 && b[0] == 87, "a breakpoint in 64 GB");
+    expect(foldwig_select_entries(e, len, 2, 0, 1).index == 1, "a selection in 96 GB");
+    expect(foldwig_breakpoints_entries(e, len, 2, a, 1, b, 1).count == 1 && a[0] == 4 && b[0] == 42, "a breakpoint in 96 GB");
     expect(foldwig_build_entries(e, len, two, 2).refusal == 2 && two[0].size == 0, "a build of 2^32 + 1 models");
     two[0] = entry(5, 9);
-    expect(foldwig_build_entries(two, 1, e, len).entries == 1 && e[0].size == 5 && e[1].size == 600, "a build to 64 GB");
+    expect(foldwig_build_entries(two, 1, e, len).entries == 1 && e[0].size == 5 && e[1].size == 600, "a build to 96 GB");
     expect(foldwig_build_quadratic_entries(e, len, two, 2).refusal == 2 && two[0].size == 5, "a quadratic build of as many");
     two[0] = entry(6, 9);
     expect(foldwig_build_quadratic_entries(two, 1, e, len).entries == 1 && e[0].size == 6 && e[1].size == 600,
-           "a quadratic build to 64 GB");
+           "a quadratic build to 96 GB");
     munmap(e, len * sizeof *e);
 }
 
@@ -1367,7 +1531,8 @@ int main(int argc, char **argv)
     random_builds(40000);
     random_paths(30000);
     random_histories(5000);
-    wide_sizes(3000);
+    wide_numbers(4000);
+    every_neighbour();
     meet_paths();
     meet_builds();
     for (int shape = 0; shape < SHAPES; shape++) {

@@ -11,8 +11,8 @@
 #endif
 
 // How many byte strings each call is lent, and how many of these, the first ones, it only reads.
-static const int lent_to[CALLS] = {2, 4, 4, 2, 4, 4, 6, 4, 4};
-static const int only_read[CALLS] = {0, 2, 2, 2, 2, 1, 1, 1, 2};
+static const int lent_to[CALLS] = {3, 6, 6, 3, 5, 6, 8, 5, 4};
+static const int only_read[CALLS] = {0, 3, 3, 3, 3, 2, 2, 1, 2};
 
 // A buffer, as the call gets it and as the reference does.
 struct lent {
@@ -41,6 +41,12 @@ struct bytes buffer(int i)
 {
     struct bytes b = {lent[i].copy, lent[i].span.len};
     return b;
+}
+
+struct lists lists(int first)
+{
+    struct lists l = {buffer(first), buffer(first + 1), buffer(first + 2)};
+    return l;
 }
 
 struct bytes fresh(int i, size_t len)
@@ -171,7 +177,7 @@ static void print_numbers(const char *what, const uint64_t *numbers, int count)
 // What a call was given beside its byte strings, and what it and the reference answered.
 struct answers {
     int numbers, fields;
-    uint64_t given[4], got[4], wanted[4];
+    uint64_t given[4], got[5], wanted[5];
 };
 
 static void print_answers(enum call call, const struct answers *a)
@@ -204,22 +210,23 @@ static void check(enum call call, const struct answers *answers, unsigned causes
             met[call][a][b] += causes >> a & causes >> b & 1;
 }
 
-// ---- The calls. LENT is a byte string as the library gets it, a pointer and a length.
+// ---- The calls. LENT is a byte string as the library gets it, a pointer and a length; LENT3 is three of them.
 
 #define LENT(i) lent[i].span.given, lent[i].span.len
+#define LENT3(i) LENT(i), LENT(i + 1), LENT(i + 2)
 
-struct foldwig_path_result compare_append(uint64_t entries, uint64_t size, uint64_t loss)
+struct foldwig_path_result compare_append(uint64_t entries, struct model m)
 {
     struct foldwig_path_result got, wanted;
     unsigned causes;
     lend_all(APPEND);
-    got = foldwig_append(LENT(0), LENT(1), entries, size, loss);
-    wanted = reference_append(buffer(0), buffer(1), entries, size, loss, &causes);
-    struct answers a = {3,
+    got = foldwig_append(LENT3(0), entries, m.size, m.loss, m.weight);
+    wanted = reference_append(lists(0), entries, m, &causes);
+    struct answers a = {4,
                         3,
-                        {entries, size, loss},
-                        {got.refusal, got.entries, got.tests, 0},
-                        {wanted.refusal, wanted.entries, wanted.tests, 0}};
+                        {entries, m.size, m.loss, m.weight},
+                        {got.refusal, got.entries, got.tests},
+                        {wanted.refusal, wanted.entries, wanted.tests}};
     check(APPEND, &a, causes);
     passed_over[APPEND] += wanted.refusal == 0 && entries > 0 && wanted.tests == 0;
     return wanted;
@@ -231,13 +238,9 @@ static struct foldwig_path_result compare_build(struct foldwig_path_result *want
     struct foldwig_path_result got;
     unsigned causes;
     lend_all(BUILD);
-    got = foldwig_build(LENT(0), LENT(1), LENT(2), LENT(3));
-    *wanted = reference_build(buffer(0), buffer(1), buffer(2), buffer(3), &causes);
-    struct answers a = {0,
-                        3,
-                        {0, 0, 0},
-                        {got.refusal, got.entries, got.tests, 0},
-                        {wanted->refusal, wanted->entries, wanted->tests, 0}};
+    got = foldwig_build(LENT3(0), LENT3(3));
+    *wanted = reference_build(lists(0), lists(3), &causes);
+    struct answers a = {0, 3, {0}, {got.refusal, got.entries, got.tests}, {wanted->refusal, wanted->entries, wanted->tests}};
     check(BUILD, &a, causes);
     return got;
 }
@@ -247,13 +250,9 @@ static struct foldwig_path_result compare_build_quadratic(void)
     struct foldwig_path_result got, wanted;
     unsigned causes;
     lend_all(BUILD_QUADRATIC);
-    got = foldwig_build_quadratic(LENT(0), LENT(1), LENT(2), LENT(3));
-    wanted = reference_build_quadratic(buffer(0), buffer(1), buffer(2), buffer(3), &causes);
-    struct answers a = {0,
-                        3,
-                        {0, 0, 0},
-                        {got.refusal, got.entries, got.tests, 0},
-                        {wanted.refusal, wanted.entries, wanted.tests, 0}};
+    got = foldwig_build_quadratic(LENT3(0), LENT3(3));
+    wanted = reference_build_quadratic(lists(0), lists(3), &causes);
+    struct answers a = {0, 3, {0}, {got.refusal, got.entries, got.tests}, {wanted.refusal, wanted.entries, wanted.tests}};
     check(BUILD_QUADRATIC, &a, causes);
     return got;
 }
@@ -262,20 +261,20 @@ static struct foldwig_path_result compare_build_quadratic(void)
 // what the build answered, but 0 for the tests.
 struct foldwig_path_result compare_builds(void)
 {
-    static uint8_t before[2][MOST_BYTES], after[2][MOST_BYTES];
+    static uint8_t before[3][MOST_BYTES], after[3][MOST_BYTES];
     struct foldwig_path_result wanted, linear, quadratic;
-    for (int i = 0; i < 2; i++)
-        memcpy(before[i], lent[2 + i].copy, lent[2 + i].span.len);
+    for (int i = 0; i < 3; i++)
+        memcpy(before[i], lent[3 + i].copy, lent[3 + i].span.len);
     linear = compare_build(&wanted);
-    for (int i = 0; i < 2; i++) {
-        memcpy(after[i], lent[2 + i].span.at, lent[2 + i].span.len);
-        memcpy(lent[2 + i].copy, before[i], lent[2 + i].span.len);
+    for (int i = 0; i < 3; i++) {
+        memcpy(after[i], lent[3 + i].span.at, lent[3 + i].span.len);
+        memcpy(lent[3 + i].copy, before[i], lent[3 + i].span.len);
     }
     quadratic = compare_build_quadratic();
     expect(quadratic.refusal == linear.refusal && quadratic.entries == linear.entries && quadratic.tests == 0,
            "a quadratic build does not answer what a build answers, with 0 for the tests");
-    for (int i = 0; i < 2; i++)
-        expect(memcmp(lent[2 + i].span.at, after[i], lent[2 + i].span.len) == 0,
+    for (int i = 0; i < 3; i++)
+        expect(memcmp(lent[3 + i].span.at, after[i], lent[3 + i].span.len) == 0,
                "a quadratic build leaves other bytes in the path's buffers than a build");
     if (wanted.refusal == 0) {
         unsigned long passed = lent[0].span.len / 2 - (wanted.tests + 1 + wanted.entries) / 2;
@@ -290,13 +289,13 @@ struct foldwig_select_result compare_select(uint64_t entries, uint64_t p, uint64
     struct foldwig_select_result got, wanted;
     unsigned causes;
     lend_all(SELECT);
-    got = foldwig_select(LENT(0), LENT(1), entries, p, q);
-    wanted = reference_select(buffer(0), buffer(1), entries, p, q, &causes);
+    got = foldwig_select(LENT3(0), entries, p, q);
+    wanted = reference_select(lists(0), entries, p, q, &causes);
     struct answers a = {3,
-                        4,
+                        5,
                         {entries, p, q},
-                        {got.refusal, got.index, got.size, got.loss},
-                        {wanted.refusal, wanted.index, wanted.size, wanted.loss}};
+                        {got.refusal, got.index, got.size, got.loss, got.weight},
+                        {wanted.refusal, wanted.index, wanted.size, wanted.loss, wanted.weight}};
     check(SELECT, &a, causes);
     return wanted;
 }
@@ -306,9 +305,9 @@ struct foldwig_breakpoints_result compare_breakpoints(uint64_t entries)
     struct foldwig_breakpoints_result got, wanted;
     unsigned causes;
     lend_all(BREAKPOINTS);
-    got = foldwig_breakpoints(LENT(0), LENT(1), entries, LENT(2), LENT(3));
-    wanted = reference_breakpoints(buffer(0), buffer(1), entries, buffer(2), buffer(3), &causes);
-    struct answers a = {1, 2, {entries, 0, 0}, {got.refusal, got.count, 0, 0}, {wanted.refusal, wanted.count, 0, 0}};
+    got = foldwig_breakpoints(LENT3(0), entries, LENT(3), LENT(4));
+    wanted = reference_breakpoints(lists(0), entries, buffer(3), buffer(4), &causes);
+    struct answers a = {1, 2, {entries}, {got.refusal, got.count}, {wanted.refusal, wanted.count}};
     check(BREAKPOINTS, &a, causes);
     return wanted;
 }
@@ -318,13 +317,9 @@ struct foldwig_signal_path_result compare_signal_path(uint64_t max_segments, uin
     struct foldwig_signal_path_result got, wanted;
     unsigned causes;
     lend_all(SIGNAL_PATH);
-    got = foldwig_signal_path(LENT(0), max_segments, min_segment_len, LENT(1), LENT(2), LENT(3));
-    wanted = reference_signal_path(buffer(0), max_segments, min_segment_len, buffer(1), buffer(2), buffer(3), &causes);
-    struct answers a = {2,
-                        2,
-                        {max_segments, min_segment_len},
-                        {got.refusal, got.entries, 0, 0},
-                        {wanted.refusal, wanted.entries, 0, 0}};
+    got = foldwig_signal_path(LENT(0), max_segments, min_segment_len, LENT(1), LENT3(2), LENT(5));
+    wanted = reference_signal_path(buffer(0), max_segments, min_segment_len, buffer(1), lists(2), buffer(5), &causes);
+    struct answers a = {2, 2, {max_segments, min_segment_len}, {got.refusal, got.entries}, {wanted.refusal, wanted.entries}};
     check(SIGNAL_PATH, &a, causes);
     return wanted;
 }
@@ -334,8 +329,8 @@ struct foldwig_split_result compare_split(uint64_t max_segments, uint64_t min_se
     struct foldwig_split_result got, wanted;
     unsigned causes;
     lend_all(SPLIT);
-    got = foldwig_split(LENT(0), max_segments, min_segment_len, p, q, LENT(1), LENT(2), LENT(3), LENT(4), LENT(5));
-    wanted = reference_split(buffer(0), max_segments, min_segment_len, p, q, buffer(1), buffer(2), buffer(3), buffer(4), buffer(5),
+    got = foldwig_split(LENT(0), max_segments, min_segment_len, LENT(1), p, q, LENT(2), LENT(3), LENT3(4), LENT(7));
+    wanted = reference_split(buffer(0), max_segments, min_segment_len, buffer(1), p, q, buffer(2), buffer(3), lists(4), buffer(7),
                              &causes);
     struct answers a = {4,
                         4,
@@ -351,13 +346,9 @@ struct foldwig_extend_result compare_extend(int16_t sample, uint64_t max_segment
     struct foldwig_extend_result got, wanted;
     unsigned causes;
     lend_all(EXTEND);
-    got = foldwig_extend(LENT(0), sample, max_segments, LENT(1), LENT(2), LENT(3));
-    wanted = reference_extend(buffer(0), sample, max_segments, buffer(1), buffer(2), buffer(3), &causes);
-    struct answers a = {2,
-                        2,
-                        {(uint16_t)sample, max_segments, 0},
-                        {got.refusal, got.entries, 0, 0},
-                        {wanted.refusal, wanted.entries, 0, 0}};
+    got = foldwig_extend(LENT(0), sample, max_segments, LENT(1), LENT3(2));
+    wanted = reference_extend(buffer(0), sample, max_segments, buffer(1), lists(2), &causes);
+    struct answers a = {2, 2, {(uint16_t)sample, max_segments}, {got.refusal, got.entries}, {wanted.refusal, wanted.entries}};
     check(EXTEND, &a, causes);
     return wanted;
 }
@@ -372,8 +363,8 @@ struct foldwig_split_from_result compare_split_from(uint64_t max_segments, uint6
     struct answers a = {3,
                         3,
                         {max_segments, p, q},
-                        {got.refusal, got.segments, got.loss, 0},
-                        {wanted.refusal, wanted.segments, wanted.loss, 0}};
+                        {got.refusal, got.segments, got.loss},
+                        {wanted.refusal, wanted.segments, wanted.loss}};
     check(SPLIT_FROM, &a, causes);
     return wanted;
 }
@@ -381,14 +372,14 @@ struct foldwig_split_from_result compare_split_from(uint64_t max_segments, uint6
 // ---- The summary
 
 // The causes of each call in their order, ended by 0.
-static const int orders[CALLS][9] = {
-    {11, 8, 5, 6, 7, 9, 0},
-    {11, 1, 2, 5, 6, 7, 9, 0},
-    {11, 1, 2, 5, 6, 7, 9, 0},
+static const int orders[CALLS][10] = {
+    {11, 8, 5, 6, 14, 7, 9, 0},
+    {11, 1, 2, 5, 6, 14, 7, 9, 0},
+    {11, 1, 2, 5, 6, 14, 7, 9, 0},
     {11, 8, 10, 4, 0},
     {11, 8, 9, 0},
-    {11, 1, 2, 3, 13, 9, 0},
-    {11, 1, 2, 3, 13, 4, 9, 0},
+    {11, 1, 2, 3, 13, 5, 14, 9, 0},
+    {11, 1, 2, 3, 13, 5, 14, 4, 9, 0},
     {11, 2, 3, SHORT_TABLE, 12, 9, 0},
     {11, 1, 2, 3, SHORT_TABLE, 12, 4, 9, 0},
 };

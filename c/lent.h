@@ -10,7 +10,7 @@
 #include "reference.h"
 #include "span.h"
 
-enum { BUFFERS = 6, MOST_BYTES = 3 << 15 };
+enum { BUFFERS = 8, MOST_BYTES = 3 << 15 };
 
 // The nine calls, as the tallies number them.
 enum call { APPEND, BUILD, BUILD_QUADRATIC, SELECT, BREAKPOINTS, SIGNAL_PATH, SPLIT, EXTEND, SPLIT_FROM, CALLS };
@@ -23,6 +23,9 @@ struct bytes fresh(int buffer, size_t len);
 
 // The buffer as it is, for instance as the latest call left it.
 struct bytes buffer(int buffer);
+
+// A buffer and the two behind it, which hold sizes, losses and weights.
+struct lists lists(int first);
 
 // Makes a buffer longer by some bytes, which are random.
 void lengthen(int which, size_t by);
@@ -38,7 +41,7 @@ void draw_samples(int which, size_t n, enum drawing drawing);
 
 // Each makes one call with the buffers and compares it. The builds are two calls on the same bytes, a build and a quadratic one,
 // which are compared with each other besides; the answer is that of the build.
-struct foldwig_path_result compare_append(uint64_t entries, uint64_t size, uint64_t loss);
+struct foldwig_path_result compare_append(uint64_t entries, struct model m);
 struct foldwig_path_result compare_builds(void);
 struct foldwig_select_result compare_select(uint64_t entries, uint64_t p, uint64_t q);
 struct foldwig_breakpoints_result compare_breakpoints(uint64_t entries);

@@ -46,10 +46,11 @@ static size_t larger(size_t a, size_t b)
     return a < b ? b : a;
 }
 
-// How many items of two bytes and of eight bytes two byte strings both have.
-static size_t places(struct bytes twos, struct bytes eights)
+// How many items each of three lists has. A planted fault leaves the weights out.
+static size_t places(struct lists l, int fault)
 {
-    return smaller(twos.len / 2, eights.len / 8);
+    size_t both = smaller(l.sizes.len / 2, l.losses.len / 8);
+    return FAULT == fault ? both : smaller(both, l.weights.len / 2);
 }
 
 // ---- Causes
@@ -80,14 +81,24 @@ static int odd_length(struct bytes b, size_t width)
     return b.len % width != 0;
 }
 
+static int odd_lists(struct lists l)
+{
+    return odd_length(l.sizes, 2) || odd_length(l.losses, 8) || (odd_length(l.weights, 2) && FAULT != 107);
+}
+
 static int bad_penalty(uint64_t p, uint64_t q)
 {
     return p > TWO_44 || q == 0 || q > 65535;
 }
 
+static int bad_weight(uint64_t weight)
+{
+    return (weight == 0 && FAULT != 85) || weight > (FAULT == 84 ? 65534 : 65535);
+}
+
 static int bad_model(struct model m)
 {
-    return m.size == 0 || m.size > 65535 || m.loss > TWO_44 || (FAULT == 18 && m.loss == TWO_44);
+    return m.size == 0 || m.size > 65535 || m.loss > TWO_44 || (FAULT == 18 && m.loss == TWO_44) || bad_weight(m.weight);
 }
 
 // ---- Penalties
@@ -102,26 +113,33 @@ static int less(struct fraction a, struct fraction b)
     return a.numerator * b.denominator < b.numerator * a.denominator;
 }
 
-// The penalty at which two models cost the same; the second one has the larger size and no larger loss.
+// The penalty at which two models cost the same; the second one has the larger weight and no larger loss.
 static struct fraction between(struct model a, struct model b)
 {
-    struct fraction f = {a.loss - b.loss, b.size - a.size};
+    struct fraction f = {a.loss - b.loss, b.weight - a.weight};
     return f;
 }
 
-// Model j is strictly cheaper than a smaller one with a larger loss below the breakpoint of the two, and than a larger one with
+// The planted faults that go by sizes: the model with its size for its weight.
+static struct model by_size(struct model m)
+{
+    m.weight = m.size;
+    return m;
+}
+
+// Model j is strictly cheaper than a lighter one with a larger loss below the breakpoint of the two, and than a heavier one with
 // no larger loss above it. Than any other with a larger loss it is always cheaper, and than the rest never. So it can win if
-// there is no such rest and the least breakpoint with a smaller model is above the greatest with a larger one.
+// there is no such rest and the least breakpoint with a lighter model is above the greatest with a heavier one.
 int can_win(const struct model *models, size_t n, size_t j)
 {
     struct fraction high = {1, 0};
     struct fraction low = {0, 1};
-    struct model m = models[j];
+    struct model m = FAULT == 76 ? by_size(models[j]) : models[j];
     for (size_t i = 0; i < n; i++) {
-        struct model other = models[i];
-        if (i == j || (other.size >= m.size && other.loss > m.loss))
+        struct model other = FAULT == 76 ? by_size(models[i]) : models[i];
+        if (i == j || (other.weight >= m.weight && other.loss > m.loss))
             continue;
-        if (other.size > m.size) {
+        if (other.weight > m.weight) {
             struct fraction f = between(m, other);
             low = less(low, f) ? f : low;
         } else if (other.loss > m.loss) {
@@ -136,7 +154,7 @@ int can_win(const struct model *models, size_t n, size_t j)
 
 static uint64_t cost(struct model m, uint64_t p, uint64_t q)
 {
-    return q * m.loss + p * m.size;
+    return q * m.loss + p * m.weight;
 }
 
 // Whether a model is to be taken instead of another: it costs less, or as much at a smaller size.
@@ -170,28 +188,24 @@ size_t not_passed_over(const struct model *models, size_t n)
 static struct model models[MAX_MODELS + 1];     // the models of a build, or the entries of a path
 static struct model path[MAX_MODELS + 1];       // the path that a call makes
 
-static struct model model_at(struct bytes sizes, struct bytes losses, size_t i)
+static struct model model_at(struct lists l, size_t i)
 {
-    struct model m = {get_item(sizes, 2, i), get_item(losses, 8, i)};
+    struct model m = {get_item(l.sizes, 2, i), get_item(l.losses, 8, i), get_item(l.weights, 2, i)};
     return m;
 }
 
-static void put_model(struct bytes sizes, struct bytes losses, size_t i, struct model m)
+// Puts the path's entries to the front of three buffers, and zeros from their end to another.
+static void put_path(struct lists to, size_t entries, size_t end)
 {
-    put_item(sizes, 2, i, m.size);
-    put_item(losses, 8, i, m.loss);
-}
-
-// Puts the path's entries to the front of two buffers, and zeros from their end to another.
-static void put_path(struct bytes sizes, struct bytes losses, size_t entries, size_t end)
-{
-    struct model zero = {0, 0};
-    for (size_t i = 0; i < entries; i++)
-        put_model(sizes, losses, i, path[i]);
     if (FAULT == 6 && end > 0)
         end--;
-    for (size_t i = entries; i < end; i++)
-        put_model(sizes, losses, i, zero);
+    for (size_t i = 0; i < larger(entries, end); i++) {
+        struct model zero = {0, 0, 0}, m = i < entries ? path[i] : zero;
+        put_item(to.sizes, 2, i, m.size);
+        put_item(to.losses, 8, i, m.loss);
+        if (i < entries || FAULT != 92)
+            put_item(to.weights, 2, i, m.weight);
+    }
 }
 
 // Makes the path of n models, those passed over included, from those that can win, and answers its number of entries.
@@ -205,15 +219,17 @@ static size_t winners(size_t n)
 }
 
 // Reads a lent path into models; the cause of 8 holds if this can't be done.
-static int bad_path(struct bytes sizes, struct bytes losses, uint64_t entries)
+static int bad_path(struct lists l, uint64_t entries)
 {
-    if (entries > places(sizes, losses) || entries > MAX_MODELS)
+    if (entries > places(l, 91) || entries > MAX_MODELS)
         return 1;
     for (size_t i = 0; i < entries; i++) {
-        models[i] = model_at(sizes, losses, i);
+        models[i] = model_at(l, i);
         if (bad_model(models[i]))
             return 1;
         if (i > 0 && (models[i].size <= models[i - 1].size || models[i].loss >= models[i - 1].loss))
+            return 1;
+        if (i > 0 && models[i].weight <= models[i - 1].weight && FAULT != 90)
             return 1;
     }
     return 0;
@@ -227,6 +243,10 @@ static int test_holds(size_t entry, struct model new_model)
         return 1;
     candidate = between(models[entry], new_model);
     before = between(models[entry - 1], models[entry]);
+    if (FAULT == 77) {
+        candidate = between(by_size(models[entry]), by_size(new_model));
+        before = between(by_size(models[entry - 1]), by_size(models[entry]));
+    }
     return FAULT == 1 ? !less(before, candidate) : less(candidate, before);
 }
 
@@ -240,28 +260,37 @@ static size_t staying(size_t entries, struct model new_model)
     return stay;
 }
 
+// Whether a new weight is not above the last entry's.
+static int weight_stays(struct model m, struct model last)
+{
+    if (FAULT == 83)
+        return m.weight < last.weight;
+    return m.weight <= last.weight && !(FAULT == 86 && m.loss == last.loss);
+}
+
 // The causes that a new model has beside the last entry, which is null if there is none.
 static unsigned model_causes(struct model m, const struct model *last)
 {
     int equal = last && m.loss == last->loss;
     unsigned causes = cause_if(5, bad_model(m)) | cause_if(6, last && m.size <= last->size && !(FAULT == 29 && equal));
+    causes |= cause_if(14, last && weight_stays(m, *last));
     return causes | cause_if(7, last && (m.loss > last->loss || (FAULT == 24 && equal)));
 }
 
-// Whether an append of a model that is not refused with 8, 5, 6 or 7 passes it over. The entries are in models.
+// Whether an append of a model that is not refused with 8, 5, 6, 14 or 7 passes it over. The entries are in models.
 static int passed_over(uint64_t entries, struct model m)
 {
     return FAULT != 32 && entries > 0 && m.loss == models[entries - 1].loss;
 }
 
 // The causes of an append. After a bad path or with a bad model no entry counts as dropped.
-static unsigned append_causes(struct bytes sizes, struct bytes losses, uint64_t entries, struct model m)
+static unsigned append_causes(struct lists to, uint64_t entries, struct model m)
 {
-    size_t room = smaller(places(sizes, losses), MAX_MODELS);
-    unsigned causes = cause_if(8, bad_path(sizes, losses, entries));
+    size_t room = smaller(places(to, 91), MAX_MODELS);
+    unsigned causes = cause_if(8, bad_path(to, entries));
     int full = entries >= room;
-    if (entries > 0 && entries <= places(sizes, losses)) {
-        struct model last = model_at(sizes, losses, entries - 1);
+    if (entries > 0 && entries <= places(to, 91)) {
+        struct model last = model_at(to, entries - 1);
         causes |= model_causes(m, &last);
     } else {
         causes |= model_causes(m, NULL);
@@ -270,19 +299,21 @@ static unsigned append_causes(struct bytes sizes, struct bytes losses, uint64_t 
         full = FAULT == 27 && full;
     else if (causes == 0 && FAULT != 14)
         full = staying(entries, m) >= room;
-    return causes | cause_if(9, full) | cause_if(11, odd_length(sizes, 2) || odd_length(losses, 8));
+    return causes | cause_if(9, full) | cause_if(11, odd_lists(to));
 }
 
-struct foldwig_path_result reference_append(struct bytes sizes, struct bytes losses, uint64_t entries, uint64_t size,
-                                            uint64_t loss, unsigned *causes)
+struct foldwig_path_result reference_append(struct lists to, uint64_t entries, struct model m, unsigned *causes)
 {
-    static const int right[] = {8, 5, 6, 7, 9, 0};
-    static const int wrong[] = {5, 8, 6, 7, 9, 0};
-    struct model m = {size, loss};
+    static const int right[] = {8, 5, 6, 14, 7, 9, 0};
+    static const int model_first[] = {5, 8, 6, 14, 7, 9, 0};
+    static const int weight_last[] = {8, 5, 6, 7, 14, 9, 0}, weight_first[] = {8, 5, 14, 6, 7, 9, 0};
     struct foldwig_path_result r = {0, 0, 0};
     size_t stay;
-    *causes = append_causes(sizes, losses, entries, m);
-    r.refusal = first_of(*causes, FAULT == 21 ? wrong : right);
+    *causes = append_causes(to, entries, m);
+    r.refusal = first_of(*causes, FAULT == 21   ? model_first
+                                  : FAULT == 81 ? weight_last
+                                  : FAULT == 82 ? weight_first
+                                                : right);
     if (r.refusal != 0)
         return r;
     if (passed_over(entries, m)) {
@@ -293,7 +324,7 @@ struct foldwig_path_result reference_append(struct bytes sizes, struct bytes los
     stay = staying(entries, m);
     memcpy(path, models, stay * sizeof path[0]);
     path[stay] = m;
-    put_path(sizes, losses, stay + 1, entries);
+    put_path(to, stay + 1, entries);
     r.entries = stay + 1;
     r.tests = entries == 0 ? 0 : entries - stay + 1;
     if (FAULT == 12 && stay == 1)
@@ -301,28 +332,51 @@ struct foldwig_path_result reference_append(struct bytes sizes, struct bytes los
     return r;
 }
 
-// The causes of one of the models of a build, which may lack its size or its loss. Of those before it the last one that was not
-// passed over is handed over and, if the model itself is not passed over, replaced by it.
-static unsigned build_model_causes(struct bytes sizes, struct bytes losses, size_t i, struct model *last)
+// The number of models of a build: that of its longest list.
+static size_t model_count(struct lists given)
+{
+    size_t longer = larger(given.sizes.len / 2, given.losses.len / 8);
+    return FAULT == 17 ? places(given, 91) : FAULT == 88 ? longer : larger(longer, given.weights.len / 2);
+}
+
+// Whether a model of a build lacks its size, its loss or its weight.
+static int lacking(struct lists given, size_t i)
+{
+    return i >= given.sizes.len / 2 || i >= given.losses.len / 8 || (i >= given.weights.len / 2 && FAULT != 89);
+}
+
+// A model of a build that lacks nothing.
+static struct model given_model(struct lists given, size_t i)
+{
+    struct model m = {get_item(given.sizes, 2, i), get_item(given.losses, 8, i), 0};
+    m.weight = i < given.weights.len / 2 ? get_item(given.weights, 2, i) : m.size;
+    return m;
+}
+
+// The causes of one of the models of a build. Of those before it the last one that was not passed over is handed over and, if the
+// model itself is not passed over, replaced by it.
+static unsigned build_model_causes(struct lists given, size_t i, struct model *last)
 {
     struct model m;
     unsigned causes;
-    if (i >= places(sizes, losses))
+    if (lacking(given, i))
         return 1u << 5;
-    m = model_at(sizes, losses, i);
+    m = given_model(given, i);
     causes = model_causes(m, i == 0 ? NULL : last);
     if (i == 0 || m.loss != last->loss || FAULT == 25)
         *last = m;
+    else if (FAULT == 87)
+        last->weight = m.weight;
     return causes;
 }
 
 // The causes of the first bad one of n models.
-static unsigned first_bad_causes(struct bytes sizes, struct bytes losses, size_t n)
+static unsigned first_bad_causes(struct lists given, size_t n)
 {
-    struct model last = {0, 0};
+    struct model last = {0, 0, 0};
     unsigned all = 0;
     for (size_t i = 0; i < n; i++) {
-        unsigned causes = build_model_causes(sizes, losses, i, &last);
+        unsigned causes = build_model_causes(given, i, &last);
         if (causes != 0 && FAULT != 16)
             return causes;
         all |= causes;
@@ -331,32 +385,30 @@ static unsigned first_bad_causes(struct bytes sizes, struct bytes losses, size_t
 }
 
 // The causes of a build of n models other than that of 9.
-static unsigned build_causes(struct bytes sizes, struct bytes losses, size_t n, struct bytes path_sizes, struct bytes path_losses)
+static unsigned build_causes(struct lists given, size_t n, struct lists to)
 {
-    unsigned causes = cause_if(11, odd_length(sizes, 2) || odd_length(losses, 8));
-    causes |= cause_if(11, odd_length(path_sizes, 2) || odd_length(path_losses, 8));
-    return causes | cause_if(1, n == 0) | cause_if(2, n > MAX_MODELS) | first_bad_causes(sizes, losses, n);
+    unsigned causes = cause_if(11, odd_lists(given) || odd_lists(to));
+    return causes | cause_if(1, n == 0) | cause_if(2, n > MAX_MODELS) | first_bad_causes(given, n);
 }
 
 // Reads the models of a build.
-static void read_models(struct bytes sizes, struct bytes losses, size_t n)
+static void read_models(struct lists given, size_t n)
 {
     for (size_t i = 0; i < n; i++)
-        models[i] = model_at(sizes, losses, i);
+        models[i] = given_model(given, i);
 }
 
-struct foldwig_path_result reference_build(struct bytes sizes, struct bytes losses, struct bytes path_sizes,
-                                           struct bytes path_losses, unsigned *causes)
+struct foldwig_path_result reference_build(struct lists given, struct lists to, unsigned *causes)
 {
-    static const int order[] = {1, 2, 5, 6, 7, 9, 0};
+    static const int right[] = {1, 2, 5, 6, 14, 7, 9, 0};
+    static const int weight_last[] = {1, 2, 5, 6, 7, 14, 9, 0}, weight_first[] = {1, 2, 5, 14, 6, 7, 9, 0};
     struct foldwig_path_result r = {0, 0, 0};
-    size_t n = FAULT == 17 ? places(sizes, losses) : larger(sizes.len / 2, losses.len / 8);
-    size_t room = places(path_sizes, path_losses), tried;
-    *causes = build_causes(sizes, losses, n, path_sizes, path_losses) | cause_if(9, FAULT != 8 && FAULT != 30 && room < n);
-    r.refusal = first_of(*causes, order);
+    size_t n = model_count(given), room = places(to, 91), tried;
+    *causes = build_causes(given, n, to) | cause_if(9, FAULT != 8 && FAULT != 30 && room < n);
+    r.refusal = first_of(*causes, FAULT == 81 ? weight_last : FAULT == 82 ? weight_first : right);
     if (r.refusal != 0)
         return r;
-    read_models(sizes, losses, n);
+    read_models(given, n);
     r.entries = winners(n);
     tried = not_passed_over(models, n);
     if ((FAULT == 8 && room < r.entries) || (FAULT == 30 && room < tried)) {
@@ -369,13 +421,13 @@ struct foldwig_path_result reference_build(struct bytes sizes, struct bytes loss
         r.tests--;
     if (FAULT == 26)
         r.tests += n - tried;
-    put_path(path_sizes, path_losses, r.entries, smaller(FAULT == 31 ? tried : n, room));
+    put_path(to, r.entries, smaller(FAULT == 31 ? tried : n, room));
     return r;
 }
 
 // ---- The quadratic build
 
-static struct model kept[MAX_MODELS];               // the models that are not passed over: their sizes rise, and their losses fall
+static struct model kept[MAX_MODELS];               // the models that are not passed over: sizes and weights rise, losses fall
 static struct fraction to_larger[MAX_MODELS];       // the greatest slope from each of them to a larger one
 static struct fraction from_smaller[MAX_MODELS];    // the least slope to each of them from a smaller one
 
@@ -390,7 +442,7 @@ static size_t keep(const struct model *given, size_t n)
 }
 
 // Takes the slope between each two of n kept models once, for both of them. A slope is the difference of the losses over that of
-// the sizes. With no larger model the greatest slope is 0, and with no smaller one the least slope is above every number.
+// the weights. With no larger model the greatest slope is 0, and with no smaller one the least slope is above every number.
 static void take_slopes(size_t n)
 {
     for (size_t i = 0; i < n; i++) {
@@ -401,6 +453,8 @@ static void take_slopes(size_t n)
     for (size_t small = 0; small < n; small++)
         for (size_t large = small + 1; large < n; large++) {
             struct fraction slope = between(kept[small], kept[large]);
+            if (FAULT == 78)
+                slope = between(by_size(kept[small]), by_size(kept[large]));
             if (less(to_larger[small], slope))
                 to_larger[small] = slope;
             if (less(slope, from_smaller[large]))
@@ -451,18 +505,22 @@ size_t path_by_slopes(const struct model *given, size_t n, struct model *made)
     return entries;
 }
 
-struct foldwig_path_result reference_build_quadratic(struct bytes sizes, struct bytes losses, struct bytes path_sizes,
-                                                     struct bytes path_losses, unsigned *causes)
+struct foldwig_path_result reference_build_quadratic(struct lists given, struct lists to, unsigned *causes)
 {
-    static const int right[] = {1, 2, 5, 6, 7, 9, 0};
-    static const int room_first[] = {1, 2, 9, 5, 6, 7, 0}, models_first[] = {1, 5, 6, 7, 2, 9, 0};
+    static const int right[] = {1, 2, 5, 6, 14, 7, 9, 0};
+    static const int room_first[] = {1, 2, 9, 5, 6, 14, 7, 0}, models_first[] = {1, 5, 6, 14, 7, 2, 9, 0};
+    static const int weight_last[] = {1, 2, 5, 6, 7, 14, 9, 0}, weight_first[] = {1, 2, 5, 14, 6, 7, 9, 0};
     struct foldwig_path_result r = {0, 0, 0};
-    size_t n = larger(sizes.len / 2, losses.len / 8), room = places(path_sizes, path_losses), end = n;
-    *causes = build_causes(sizes, losses, n, path_sizes, path_losses) | cause_if(9, FAULT != 67 && room < n);
-    r.refusal = first_of(*causes, FAULT == 65 ? room_first : FAULT == 66 ? models_first : right);
+    size_t n = model_count(given), room = places(to, 91), end = n;
+    *causes = build_causes(given, n, to) | cause_if(9, FAULT != 67 && room < n);
+    r.refusal = first_of(*causes, FAULT == 65   ? room_first
+                                  : FAULT == 66 ? models_first
+                                  : FAULT == 81 ? weight_last
+                                  : FAULT == 82 ? weight_first
+                                                : right);
     if (r.refusal != 0)
         return r;
-    read_models(sizes, losses, n);
+    read_models(given, n);
     r.entries = path_by_slopes(models, n, path);
     if (FAULT == 67 && room < r.entries) {
         r.refusal = 9;
@@ -473,29 +531,31 @@ struct foldwig_path_result reference_build_quadratic(struct bytes sizes, struct 
         r.tests = 2 * not_passed_over(models, n) - 1 - r.entries;
     if (FAULT == 63 || FAULT == 64)
         end = FAULT == 63 ? n + 1 : r.entries;
-    put_path(path_sizes, path_losses, r.entries, smaller(end, room));
+    put_path(to, r.entries, smaller(end, room));
     return r;
 }
 
 // ---- Selecting
 
-struct foldwig_select_result reference_select(struct bytes sizes, struct bytes losses, uint64_t entries, uint64_t p, uint64_t q,
-                                              unsigned *causes)
+struct foldwig_select_result reference_select(struct lists from, uint64_t entries, uint64_t p, uint64_t q, unsigned *causes)
 {
     static const int right[] = {8, 10, 4, 0};
     static const int wrong[] = {8, 4, 10, 0};
-    struct foldwig_select_result r = {0, 0, 0, 0};
-    *causes = cause_if(11, odd_length(sizes, 2) || odd_length(losses, 8)) | cause_if(8, bad_path(sizes, losses, entries));
+    struct foldwig_select_result r = {0, 0, 0, 0, 0};
+    *causes = cause_if(11, odd_lists(from)) | cause_if(8, bad_path(from, entries));
     *causes |= cause_if(10, entries == 0) | cause_if(4, bad_penalty(p, q));
     r.refusal = first_of(*causes, FAULT == 9 ? wrong : right);
     if (r.refusal != 0)
         return r;
+    for (size_t i = 0; i < entries && FAULT == 79; i++)
+        models[i] = by_size(models[i]);
     while (r.index + 1 < entries && better(models[r.index + 1], models[r.index], p, q))
         r.index++;
     if (FAULT == 23)
         r.index = cheapest(models, entries, p, q);
     r.size = models[r.index].size;
     r.loss = models[r.index].loss;
+    r.weight = get_item(from.weights, 2, r.index);
     return r;
 }
 
@@ -504,20 +564,22 @@ static uint64_t common_divisor(uint64_t a, uint64_t b)
     return b == 0 ? a : common_divisor(b, a % b);
 }
 
-struct foldwig_breakpoints_result reference_breakpoints(struct bytes sizes, struct bytes losses, uint64_t entries,
-                                                        struct bytes numerators, struct bytes denominators, unsigned *causes)
+struct foldwig_breakpoints_result reference_breakpoints(struct lists from, uint64_t entries, struct bytes numerators,
+                                                        struct bytes denominators, unsigned *causes)
 {
     static const int order[] = {8, 9, 0};
     struct foldwig_breakpoints_result r = {0, 0};
     uint64_t count = entries == 0 ? 0 : entries - 1;
-    *causes = cause_if(11, odd_length(sizes, 2) || odd_length(losses, 8));
-    *causes |= cause_if(11, odd_length(numerators, 8) || odd_length(denominators, 2));
-    *causes |= cause_if(8, bad_path(sizes, losses, entries)) | cause_if(9, places(denominators, numerators) < count);
+    *causes = cause_if(11, odd_lists(from) || odd_length(numerators, 8) || odd_length(denominators, 2));
+    *causes |= cause_if(8, bad_path(from, entries));
+    *causes |= cause_if(9, smaller(numerators.len / 8, denominators.len / 2) < count);
     r.refusal = first_of(*causes, order);
     if (r.refusal != 0)
         return r;
     for (size_t i = 0; i < count; i++) {
         struct fraction f = between(models[i], models[i + 1]);
+        if (FAULT == 75)
+            f = between(by_size(models[i]), by_size(models[i + 1]));
         uint64_t by = FAULT == 15 ? common_divisor(f.numerator, f.denominator) : 1;
         put_item(numerators, 8, i, f.numerator / by);
         put_item(denominators, 2, i, f.denominator / by);
@@ -616,10 +678,18 @@ static int long_enough(const uint16_t *starts, size_t count, size_t n, size_t mi
     return 1;
 }
 
+// The loss and the number of segments of each segmentation that was tried and counts, and how many they are.
+static struct {
+    int64_t loss;
+    size_t count;
+} cuttings[1 << (MAX_TRIED - 1)];
+static size_t cutting_count;
+
 // Tries all segmentations of a short signal into up to so many segments of so many samples or more.
 static void try_all(size_t n, size_t largest, size_t min_segment_len)
 {
     static int64_t loss[MAX_TRIED][MAX_TRIED];
+    cutting_count = 0;
     for (size_t i = 0; i < n; i++)
         for (size_t j = i; j < n; j++)
             loss[i][j] = tried_loss(i, j);
@@ -631,9 +701,11 @@ static void try_all(size_t n, size_t largest, size_t min_segment_len)
         int64_t sum = 0;
         for (size_t s = 0; s < count; s++)
             sum += loss[starts[s]][s + 1 < count ? (size_t)starts[s + 1] - 1 : n - 1];
-        if (count > largest || sum > least_loss[count] || !long_enough(starts, count, n, min_segment_len))
+        if (count > largest || !long_enough(starts, count, n, min_segment_len))
             continue;
-        if (sum < least_loss[count] || earlier(starts, given_starts[count], count)) {
+        cuttings[cutting_count].loss = sum;
+        cuttings[cutting_count++].count = count;
+        if (sum < least_loss[count] || (sum == least_loss[count] && earlier(starts, given_starts[count], count))) {
             least_loss[count] = sum;
             memcpy(given_starts[count], starts, count * sizeof starts[0]);
         }
@@ -751,19 +823,47 @@ static void cut_greedily(size_t n, size_t largest)
 
 // ---- Calls on signals
 
+// Whether a weight lent with a signal is out of range.
+static int weight_out_of_range(struct bytes weights, uint64_t max_segments)
+{
+    for (size_t i = 0; i < weights.len / 2 && (i < max_segments || FAULT != 95); i++)
+        if (bad_weight(get_item(weights, 2, i)))
+            return 1;
+    return 0;
+}
+
+// Whether the weights lent with a signal of n samples do not rise, or are not as many as are due.
+static int weights_do_not_fit(struct bytes weights, uint64_t max_segments, size_t n)
+{
+    size_t count = weights.len / 2;
+    if (count == 0)
+        return FAULT == 101;
+    if (FAULT == 96 && max_segments > n)
+        max_segments = n;
+    if (FAULT == 102 ? count < max_segments : count != max_segments)
+        return 1;
+    for (size_t i = 1; i < count && (i < n || FAULT != 97); i++) {
+        uint64_t before = get_item(weights, 2, i - 1), weight = get_item(weights, 2, i);
+        if (weight < before || (weight == before && FAULT != 98))
+            return 1;
+    }
+    return 0;
+}
+
 // The causes that both calls on signals have.
-static unsigned signal_causes(struct bytes samples, uint64_t max_segments, uint64_t min_segment_len, struct bytes path_sizes,
-                              struct bytes path_losses, struct bytes scratch)
+static unsigned signal_causes(struct bytes samples, uint64_t max_segments, uint64_t min_segment_len, struct bytes weights,
+                              struct lists to, struct bytes scratch)
 {
     size_t n = samples.len / 2;
     uint64_t largest = max_segments < n ? max_segments : n;
     size_t most = FAULT == 19 ? MAX_SAMPLES - 1 : MAX_SAMPLES;
-    unsigned causes = cause_if(11, odd_length(samples, 2) || odd_length(path_sizes, 2) || odd_length(path_losses, 8));
+    unsigned causes = cause_if(11, odd_length(samples, 2) || (odd_length(weights, 2) && FAULT != 93) || odd_lists(to));
     causes |= cause_if(1, n == 0) | cause_if(2, n > most) | cause_if(3, max_segments == 0 || max_segments > 32);
     causes |= cause_if(13, min_segment_len == 0 || min_segment_len > (FAULT == 69 && n > 1 ? n - 1 : n));
+    causes |= cause_if(5, weight_out_of_range(weights, max_segments)) | cause_if(14, weights_do_not_fit(weights, max_segments, n));
     if (FAULT == 74 && min_segment_len > 1)
         largest = smaller(n / (size_t)min_segment_len, (size_t)largest);
-    return causes | cause_if(9, places(path_sizes, path_losses) < largest || scratch.len < 31744);
+    return causes | cause_if(9, places(to, 105) < largest || scratch.len < 31744);
 }
 
 static void read_samples(struct bytes samples)
@@ -787,8 +887,14 @@ static int uneven(size_t largest)
     return 0;
 }
 
+// The weight of a size.
+static uint64_t weight_of(struct bytes weights, size_t size)
+{
+    return weights.len == 0 ? size : get_item(weights, 2, size - 1);
+}
+
 // Segments a signal and makes its models, of which it answers the number.
-static size_t make_models(struct bytes samples, uint64_t max_segments, uint64_t min_segment_len)
+static size_t make_models(struct bytes samples, uint64_t max_segments, uint64_t min_segment_len, struct bytes weights)
 {
     size_t n = samples.len / 2, largest;
     if (FAULT == 68)
@@ -806,6 +912,7 @@ static size_t make_models(struct bytes samples, uint64_t max_segments, uint64_t 
     for (size_t k = 1; k <= largest; k++) {
         models[k - 1].size = k;
         models[k - 1].loss = (uint64_t)least_loss[k];
+        models[k - 1].weight = weight_of(weights, k);
     }
     reference_uneven += uneven(largest);
     return largest;
@@ -817,6 +924,8 @@ static size_t signal_winners(size_t largest)
     size_t entries = winners(largest);
     if (FAULT == 10 && largest > 1 && models[largest - 1].loss == models[largest - 2].loss)
         path[entries++] = models[largest - 1];
+    for (size_t i = 0; i < entries && FAULT == 103; i++)
+        path[i] = by_size(path[i]);
     return entries;
 }
 
@@ -825,21 +934,37 @@ static void clear_scratch(struct bytes scratch)
     memset(scratch.at, 0, FAULT == 13 ? 31744 : scratch.len);
 }
 
+// The first of the causes of a call on a signal. Without a penalty 4 does not hold.
+static uint64_t signal_refusal(unsigned causes)
+{
+    static const int right[] = {1, 2, 3, 13, 5, 14, 4, 9, 0};
+    static const int room_early[] = {1, 2, 3, 13, 5, 14, 9, 4, 0}, penalty_early[] = {1, 2, 3, 4, 13, 5, 14, 9, 0};
+    static const int length_first[] = {1, 2, 13, 3, 5, 14, 4, 9, 0}, order_first[] = {1, 2, 3, 13, 14, 5, 4, 9, 0};
+    static const int weights_first[] = {1, 2, 3, 5, 14, 13, 4, 9, 0}, penalty_first[] = {1, 2, 3, 13, 4, 5, 14, 9, 0};
+    switch (FAULT) {
+    case 9: return first_of(causes, room_early);
+    case 70: return first_of(causes, penalty_early);
+    case 72: return first_of(causes, length_first);
+    case 94: return first_of(causes, order_first);
+    case 99: return first_of(causes, weights_first);
+    case 100: return first_of(causes, penalty_first);
+    default: return first_of(causes, right);
+    }
+}
+
 struct foldwig_signal_path_result reference_signal_path(struct bytes samples, uint64_t max_segments, uint64_t min_segment_len,
-                                                        struct bytes path_sizes, struct bytes path_losses, struct bytes scratch,
+                                                        struct bytes weights, struct lists to, struct bytes scratch,
                                                         unsigned *causes)
 {
-    static const int right[] = {1, 2, 3, 13, 9, 0};
-    static const int length_first[] = {1, 2, 13, 3, 9, 0};
     struct foldwig_signal_path_result r = {0, 0};
     size_t largest;
-    *causes = signal_causes(samples, max_segments, min_segment_len, path_sizes, path_losses, scratch);
-    r.refusal = first_of(*causes, FAULT == 72 ? length_first : right);
+    *causes = signal_causes(samples, max_segments, min_segment_len, weights, to, scratch);
+    r.refusal = signal_refusal(*causes);
     if (r.refusal != 0)
         return r;
-    largest = make_models(samples, max_segments, min_segment_len);
+    largest = make_models(samples, max_segments, min_segment_len, weights);
     r.entries = signal_winners(largest);
-    put_path(path_sizes, path_losses, r.entries, FAULT == 71 ? largest : smaller(samples.len / 2, (size_t)max_segments));
+    put_path(to, r.entries, FAULT == 71 ? largest : smaller(samples.len / 2, (size_t)max_segments));
     clear_scratch(scratch);
     return r;
 }
@@ -855,32 +980,52 @@ static void put_segments(struct bytes starts, struct bytes levels, size_t segmen
     }
 }
 
-struct foldwig_split_result reference_split(struct bytes samples, uint64_t max_segments, uint64_t min_segment_len, uint64_t p,
-                                            uint64_t q, struct bytes starts, struct bytes levels, struct bytes path_sizes,
-                                            struct bytes path_losses, struct bytes scratch, unsigned *causes)
+// The number of segments of the cheapest of all segmentations that were tried, the fewest if several are the cheapest.
+static size_t cheapest_tried(struct bytes weights, uint64_t p, uint64_t q)
 {
-    static const int right[] = {1, 2, 3, 13, 4, 9, 0};
-    static const int wrong[] = {1, 2, 3, 13, 9, 4, 0};
-    static const int penalty_first[] = {1, 2, 3, 4, 13, 9, 0};
+    struct model best = {0, 0, 0};
+    for (size_t i = 0; i < cutting_count; i++) {
+        struct model m = {cuttings[i].count, (uint64_t)cuttings[i].loss, weight_of(weights, cuttings[i].count)};
+        if (FAULT == 80)
+            m = by_size(m);
+        if (i == 0 || better(m, best, p, q))
+            best = m;
+    }
+    return best.size;
+}
+
+// The number of segments at the penalty p / q: of a short signal's segmentations themselves, or by its models.
+static size_t cheapest_size(size_t n, size_t largest, struct bytes weights, uint64_t p, uint64_t q)
+{
+    if (FAULT != 20 && n <= reference_tries_up_to)
+        return cheapest_tried(weights, p, q);
+    for (size_t i = 0; i < largest && FAULT == 80; i++)
+        models[i] = by_size(models[i]);
+    return models[cheapest(models, largest, p, q)].size;
+}
+
+struct foldwig_split_result reference_split(struct bytes samples, uint64_t max_segments, uint64_t min_segment_len,
+                                            struct bytes weights, uint64_t p, uint64_t q, struct bytes starts, struct bytes levels,
+                                            struct lists to, struct bytes scratch, unsigned *causes)
+{
     struct foldwig_split_result r = {0, 0, 0, 0};
     size_t n = samples.len / 2, largest;
     uint64_t needed = max_segments < n ? max_segments : n;
-    *causes = signal_causes(samples, max_segments, min_segment_len, path_sizes, path_losses, scratch);
+    *causes = signal_causes(samples, max_segments, min_segment_len, weights, to, scratch);
     *causes |= cause_if(11, odd_length(starts, 2) || odd_length(levels, 2)) | cause_if(4, bad_penalty(p, q));
     *causes |= cause_if(9, FAULT != 22 && smaller(starts.len / 2, levels.len / 2) < needed);
-    r.refusal = first_of(*causes, FAULT == 9 ? wrong : FAULT == 70 ? penalty_first : right);
+    r.refusal = signal_refusal(*causes);
     if (r.refusal != 0)
         return r;
-    largest = make_models(samples, max_segments, min_segment_len);
-    r.segments = models[cheapest(models, largest, p, q)].size;
-    if (FAULT == 22 && smaller(starts.len / 2, levels.len / 2) < r.segments) {
-        r.refusal = 9;
-        r.segments = 0;
-        return r;
-    }
+    largest = make_models(samples, max_segments, min_segment_len, weights);
     r.entries = signal_winners(largest);
+    r.segments = cheapest_size(n, largest, weights, p, q);
+    if (FAULT == 22 && smaller(starts.len / 2, levels.len / 2) < r.segments) {
+        struct foldwig_split_result no_room = {9, 0, 0, 0};
+        return no_room;
+    }
     r.loss = (uint64_t)loss_of_starts(r.segments, n);
-    put_path(path_sizes, path_losses, r.entries, (size_t)needed);
+    put_path(to, r.entries, (size_t)needed);
     put_segments(starts, levels, r.segments, n);
     clear_scratch(scratch);
     return r;
@@ -977,20 +1122,21 @@ static size_t column_models(struct bytes table, size_t position, uint64_t max_se
     for (size_t size = 1; size <= largest; size++) {
         models[size - 1].size = size;
         models[size - 1].loss = table_value(table, size, position);
+        models[size - 1].weight = size;
     }
     return largest;
 }
 
 struct foldwig_extend_result reference_extend(struct bytes samples, int16_t sample, uint64_t max_segments, struct bytes table,
-                                              struct bytes path_sizes, struct bytes path_losses, unsigned *causes)
+                                              struct lists to, unsigned *causes)
 {
     static const int right[] = {2, 3, SHORT_TABLE, 12, 9, 0};
     static const int damage_first[] = {2, 3, 12, SHORT_TABLE, 9, 0}, room_first[] = {2, 3, SHORT_TABLE, 9, 12, 0};
     struct foldwig_extend_result r = {0, 0};
-    size_t n = samples.len / 2, room = places(path_sizes, path_losses), largest;
+    size_t n = samples.len / 2, room = places(to, 106), largest;
     uint64_t needed = max_segments < n + 1 ? max_segments : n + 1;
     *causes = table_causes(samples, max_segments, table) | cause_if(2, n + 1 > (FAULT == 39 ? MAX_SAMPLES - 1 : MAX_SAMPLES));
-    *causes |= cause_if(11, odd_length(path_sizes, 2) || odd_length(path_losses, 8)) | cause_if(9, room + (FAULT == 52) < needed);
+    *causes |= cause_if(11, odd_lists(to)) | cause_if(9, room + (FAULT == 52) < needed);
     r.refusal = refusal_of(*causes, FAULT == 43 ? damage_first : FAULT == 49 ? room_first : right);
     if (r.refusal != 0)
         return r;
@@ -1001,7 +1147,9 @@ struct foldwig_extend_result reference_extend(struct bytes samples, int16_t samp
         memset(table.at + TABLE_BYTES, 0, table.len - TABLE_BYTES);
     largest = column_models(table, n + 1, FAULT == 54 && n > 0 && max_segments > n ? n : max_segments);
     r.entries = winners(largest);
-    put_path(path_sizes, path_losses, r.entries, smaller(FAULT == 46 ? largest - 1 : largest, room));
+    for (size_t i = 0; i < r.entries && FAULT == 104; i++)
+        path[i].weight = get_item(to.weights, 2, i);
+    put_path(to, r.entries, smaller(FAULT == 46 ? largest - 1 : largest, room));
     return r;
 }
 

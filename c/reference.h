@@ -1,7 +1,7 @@
 // A reference for the nine calls, in plain C, written from docs/RULES.md. It finds a path by asking of each model whether it can
-// be the cheapest, the path of a quadratic build by the slopes between each two models, a short signal's segmentations by trying
-// all of them, and a long one's by a plain dynamic programme. On a table it tries every start of a last segment and adds up the
-// squares of each segment anew.
+// be the cheapest, the path of a quadratic build by the slopes between each two models, a short signal's segmentations and the
+// cheapest of them by trying all of them, and a long one's by a plain dynamic programme. On a table it tries every start of a last
+// segment and adds up the squares of each segment anew.
 //
 // The macro FAULT plants one fault in the reference, which a test must then notice:
 //
@@ -79,6 +79,39 @@
 //   72  a bad least length is found before a bad limit
 //   73  a segment may have one sample less than the least length
 //   74  room is asked for the sizes that occur only
+//   75  the breakpoints that are listed have differences of sizes below
+//   76  which models can win goes by their sizes
+//   77  the tests of an append go by sizes
+//   78  the slopes of a quadratic build go by sizes
+//   79  a selection takes q * loss + p * size for the cost
+//   80  a split takes q * loss + p * size for the cost
+//   81  a weight that is not larger is found after a loss that is larger
+//   82  a weight that is not larger is found before a size that is not
+//   83  a weight that equals the last entry's is taken
+//   84  a weight of 65,535 is out of range
+//   85  a weight of 0 is in range
+//   86  a model with the last entry's loss is passed over whatever its weight
+//   87  a build compares a weight with that of a model that was passed over
+//   88  the list of weights does not count the models of a build
+//   89  where a build lacks a weight, the size stands in for it
+//   90  the weights of a lent path need not rise
+//   91  a lent path and a build have room whatever the buffer of weights is
+//   92  behind a path the weights stay as they are
+//   93  a byte string of weights lent with a signal may have an odd length
+//   94  with a signal, weights out of order are found before those out of range
+//   95  with a signal, only as many weights as the limit says are looked at for their range
+//   96  with a signal, as many weights are due as sizes can occur, and not as the limit says
+//   97  with a signal, only the weights of sizes that can occur have to rise
+//   98  with a signal, weights that stay the same are taken
+//   99  with a signal, bad weights are found before a bad least length
+//  100  with a signal, a bad penalty is found before bad weights
+//  101  with a signal, no weights get 14
+//  102  with a signal, more weights than the limit are taken
+//  103  a signal's path has the sizes for weights
+//  104  an extension leaves the weights of its path as they are
+//  105  the path of a signal has room whatever its buffer of weights is
+//  106  the path of an extension has room whatever its buffer of weights is
+//  107  a byte string of a path's weights may have an odd length
 #ifndef REFERENCE_H
 #define REFERENCE_H
 
@@ -97,6 +130,12 @@ struct bytes {
 struct model {
     uint64_t size;
     uint64_t loss;
+    uint64_t weight;
+};
+
+// Models, or a path, in three byte strings.
+struct lists {
+    struct bytes sizes, losses, weights;
 };
 
 // The number that stands for a short table among causes. Its refusal is 9, as for other buffers, but comes before 12.
@@ -130,24 +169,20 @@ size_t path_by_slopes(const struct model *given, size_t n, struct model *made);
 
 // Each of these does what the call of the same name does. Bit n of *causes is set if the cause of refusal n holds, whether or not
 // it is the first one.
-struct foldwig_path_result reference_append(struct bytes sizes, struct bytes losses, uint64_t entries, uint64_t size,
-                                            uint64_t loss, unsigned *causes);
-struct foldwig_path_result reference_build(struct bytes sizes, struct bytes losses, struct bytes path_sizes,
-                                           struct bytes path_losses, unsigned *causes);
-struct foldwig_path_result reference_build_quadratic(struct bytes sizes, struct bytes losses, struct bytes path_sizes,
-                                                     struct bytes path_losses, unsigned *causes);
-struct foldwig_select_result reference_select(struct bytes sizes, struct bytes losses, uint64_t entries, uint64_t p, uint64_t q,
-                                              unsigned *causes);
-struct foldwig_breakpoints_result reference_breakpoints(struct bytes sizes, struct bytes losses, uint64_t entries,
-                                                        struct bytes numerators, struct bytes denominators, unsigned *causes);
+struct foldwig_path_result reference_append(struct lists to, uint64_t entries, struct model m, unsigned *causes);
+struct foldwig_path_result reference_build(struct lists given, struct lists to, unsigned *causes);
+struct foldwig_path_result reference_build_quadratic(struct lists given, struct lists to, unsigned *causes);
+struct foldwig_select_result reference_select(struct lists from, uint64_t entries, uint64_t p, uint64_t q, unsigned *causes);
+struct foldwig_breakpoints_result reference_breakpoints(struct lists from, uint64_t entries, struct bytes numerators,
+                                                        struct bytes denominators, unsigned *causes);
 struct foldwig_signal_path_result reference_signal_path(struct bytes samples, uint64_t max_segments, uint64_t min_segment_len,
-                                                        struct bytes path_sizes, struct bytes path_losses, struct bytes scratch,
+                                                        struct bytes weights, struct lists to, struct bytes scratch,
                                                         unsigned *causes);
-struct foldwig_split_result reference_split(struct bytes samples, uint64_t max_segments, uint64_t min_segment_len, uint64_t p,
-                                            uint64_t q, struct bytes starts, struct bytes levels, struct bytes path_sizes,
-                                            struct bytes path_losses, struct bytes scratch, unsigned *causes);
+struct foldwig_split_result reference_split(struct bytes samples, uint64_t max_segments, uint64_t min_segment_len,
+                                            struct bytes weights, uint64_t p, uint64_t q, struct bytes starts, struct bytes levels,
+                                            struct lists to, struct bytes scratch, unsigned *causes);
 struct foldwig_extend_result reference_extend(struct bytes samples, int16_t sample, uint64_t max_segments, struct bytes table,
-                                              struct bytes path_sizes, struct bytes path_losses, unsigned *causes);
+                                              struct lists to, unsigned *causes);
 struct foldwig_split_from_result reference_split_from(struct bytes samples, uint64_t max_segments, uint64_t p, uint64_t q,
                                                       struct bytes table, struct bytes starts, struct bytes levels,
                                                       unsigned *causes);

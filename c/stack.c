@@ -17,7 +17,8 @@ enum { STACK = 1 << 20, MARGIN = 512, PAINT = 0x5d, MODELS = 4096, CALLS = 14 };
 enum { STAYING, DROPPING, REFUSED, INPUTS };
 
 static uint64_t limit;
-static uint8_t sizes[2 * MODELS], losses[8 * MODELS], path_sizes[2 * MODELS], path_losses[8 * MODELS];
+static uint8_t sizes[2 * MODELS], losses[8 * MODELS], weights[2 * MODELS];
+static uint8_t path_sizes[2 * MODELS], path_losses[8 * MODELS], path_weights[2 * MODELS];
 static struct foldwig_entry models[MODELS], entries[MODELS];
 static uint64_t numerators[MODELS], denominators[MODELS];
 static uint8_t samples[2 * FOLDWIG_MAX_SAMPLES], starts[64], levels[64], scratch[FOLDWIG_SCRATCH_LEN];
@@ -46,48 +47,49 @@ static void fill(int input)
         uint64_t left = MODELS - i;
         put(sizes + 2 * i, 2, input == REFUSED && left <= 2 ? 0 : i + 1);
         put(losses + 8 * i, 8, (input == DROPPING ? left : left * left) + 1);
+        put(weights + 2 * i, 2, i + 2);
         models[i].size = input == REFUSED && left <= 2 ? 0 : i + 1;
         models[i].loss = (input == DROPPING ? left : left * left) + 1;
+        models[i].weight = i + 2;
     }
     for (uint64_t i = 0; i < FOLDWIG_MAX_SAMPLES; i++)
         put(samples + 2 * i, 2, input == DROPPING ? 7 : i * i * 7919);
     limit = input == REFUSED ? 33 : 32;
 }
 
+// A byte string as a pointer and a length; the models or the path in three of them; the path's buffers for so many entries.
+#define WHOLE(bytes) bytes, sizeof bytes
+#define MODEL_LISTS WHOLE(sizes), WHOLE(losses), WHOLE(weights)
+#define PATH_LISTS(n) path_sizes, 2 * (n), path_losses, 8 * (n), path_weights, 2 * (n)
+
 static uint64_t call_append(void)
 {
-    return foldwig_append(sizes, sizeof sizes, losses, sizeof losses, MODELS - 1, MODELS, 0).refusal;
+    return foldwig_append(MODEL_LISTS, MODELS - 1, MODELS, 0, MODELS + 1).refusal;
 }
 
 static uint64_t call_build(void)
 {
-    return foldwig_build(sizes, sizeof sizes, losses, sizeof losses, path_sizes, sizeof path_sizes, path_losses,
-                         sizeof path_losses)
-        .refusal;
+    return foldwig_build(MODEL_LISTS, PATH_LISTS(MODELS)).refusal;
 }
 
 static uint64_t call_build_quadratic(void)
 {
-    return foldwig_build_quadratic(sizes, sizeof sizes, losses, sizeof losses, path_sizes, sizeof path_sizes, path_losses,
-                                   sizeof path_losses)
-        .refusal;
+    return foldwig_build_quadratic(MODEL_LISTS, PATH_LISTS(MODELS)).refusal;
 }
 
 static uint64_t call_select(void)
 {
-    return foldwig_select(sizes, sizeof sizes, losses, sizeof losses, MODELS, 0, 1).refusal;
+    return foldwig_select(MODEL_LISTS, MODELS, 0, 1).refusal;
 }
 
 static uint64_t call_breakpoints(void)
 {
-    return foldwig_breakpoints(sizes, sizeof sizes, losses, sizeof losses, MODELS, path_losses, sizeof path_losses, path_sizes,
-                               sizeof path_sizes)
-        .refusal;
+    return foldwig_breakpoints(MODEL_LISTS, MODELS, WHOLE(path_losses), WHOLE(path_sizes)).refusal;
 }
 
 static uint64_t call_append_entries(void)
 {
-    return foldwig_append_entries(models, MODELS, MODELS - 1, MODELS, 0).refusal;
+    return foldwig_append_entries(models, MODELS, MODELS - 1, MODELS, 0, MODELS + 1).refusal;
 }
 
 static uint64_t call_build_entries(void)
@@ -110,31 +112,27 @@ static uint64_t call_breakpoints_entries(void)
     return foldwig_breakpoints_entries(models, MODELS, MODELS, numerators, MODELS, denominators, MODELS).refusal;
 }
 
+// With a signal as many weights are lent as the limit says.
 static uint64_t call_signal_path(void)
 {
-    return foldwig_signal_path(samples, sizeof samples, limit, 1, path_sizes, 64, path_losses, 256, scratch, sizeof scratch)
-        .refusal;
+    return foldwig_signal_path(WHOLE(samples), limit, 1, weights, 2 * limit, PATH_LISTS(32), WHOLE(scratch)).refusal;
 }
 
 static uint64_t call_split(void)
 {
-    return foldwig_split(samples, sizeof samples, limit, 1, 1, 1, starts, sizeof starts, levels, sizeof levels, path_sizes, 64,
-                         path_losses, 256, scratch, sizeof scratch)
+    return foldwig_split(WHOLE(samples), limit, 1, weights, 2 * limit, 1, 1, WHOLE(starts), WHOLE(levels), PATH_LISTS(32),
+                         WHOLE(scratch))
         .refusal;
 }
 
 static uint64_t call_extend(void)
 {
-    return foldwig_extend(samples, sizeof samples - FOLDWIG_SAMPLE_LEN, 7, limit - 16, table, sizeof table, path_sizes, 32,
-                          path_losses, 128)
-        .refusal;
+    return foldwig_extend(samples, sizeof samples - FOLDWIG_SAMPLE_LEN, 7, limit - 16, WHOLE(table), PATH_LISTS(16)).refusal;
 }
 
 static uint64_t call_split_from(void)
 {
-    return foldwig_split_from(samples, sizeof samples, limit - 16, 0, 1, table, sizeof table, starts, sizeof starts, levels,
-                              sizeof levels)
-        .refusal;
+    return foldwig_split_from(WHOLE(samples), limit - 16, 0, 1, WHOLE(table), WHOLE(starts), WHOLE(levels)).refusal;
 }
 
 static const struct {

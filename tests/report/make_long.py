@@ -80,6 +80,31 @@ def signals():
         '(price 7 1 (runs 32) (loss 0)' + runs + ')\n(price 0 65535 (runs 32) (loss 0)' + runs + ')\n')
 
 
+def weights():
+    # One sample and the limit 32: there is one size, with the weight 1. 32 weights are as many as the limit, and more are too many.
+    start = '(record 0)\n(limit 32)\n'
+    path = '(path (size 1 loss 0 weight 1))\n'
+
+    def row(weights):
+        return start + '(weights ' + ' '.join(map(str, weights)) + ')\n'
+    rising = list(range(1, 2001))
+    put('weights-32', row(rising[:32]), path)
+    put('weights-32-last-largest', row(rising[:31] + [65535]), path)
+    put('weights-32-last-out-of-range', row(rising[:31] + [65536]), refused(5))
+    put('weights-33', row(rising[:33]), refused(14))
+    put('weights-33-last-out-of-range', row(rising[:32] + [0]), refused(5))
+    put('weights-33-last-of-15-digits', row(rising[:32] + [10 ** 15 - 1]), refused(5))
+    put('weights-33-last-of-16-digits', row(rising[:32] + [10 ** 15]), refused(11))
+    put('weights-34', row(rising[:34]), refused(14))
+    put('weights-34-last-out-of-range', row(rising[:33] + [0]), refused(5))
+    put('weights-34-one-before-out-of-range', row(rising[:32] + [0, 34]), refused(5))
+    put('weights-2000', row(rising[:2000]), refused(14))
+    put('weights-2000-last-out-of-range', row(rising[:1999] + [0]), refused(5))
+    put('weights-2000-last-leading-zero', row(rising[:1999] + ['02000']), refused(11))
+    put('weights-8160-equal', row([1] * 8160), refused(14))
+    put('weights-8160-last-out-of-range', row([1] * 8159 + [0]), refused(5))
+
+
 def lengths():
     put('length-16383', filled(GOOD, 16383), PATH + ANSWER)
     put('length-16384', filled(GOOD, 16384), PATH + ANSWER)
@@ -105,4 +130,5 @@ def lengths():
 
 counts()
 signals()
+weights()
 lengths()

@@ -72,10 +72,33 @@ FAULTS = {
     'on-after-11': 'after 11 for a price reading goes on',
     'stop-after-4': 'after 4 reading stops',
     'no-end': 'an input without a record or a limit ends without 11',
-    'path-late': 'the path is printed with the first price',
+    'path-soon': 'the path is printed with the limit',
+    'path-end-lacks': 'at the end of the input no path is printed',
+    'path-at-weights': 'a weights line that is refused prints the path first',
+    'path-at-notes': 'a line that opens as a note and is refused prints the path first',
+    'path-by-word': 'only the whole words note and weights keep the path waiting',
+    'path-unended': 'an unended line never prints the path',
     'long-taken': '16,385 bytes are taken',
     'long-refused': '16,384 bytes are refused',
     'long-late': 'a long input is read up to its end, and 11 comes then',
+    # weights
+    'weights-none': '(weights) is taken as no weights',
+    'weights-second': 'a second weights form replaces the first',
+    'weights-late': 'weights after a price are taken and passed over',
+    'weights-few': 'fewer weights than the limit are taken',
+    'weights-many': 'more weights than the limit are taken',
+    'weights-equal': 'weights may be equal',
+    'weights-order': '14 comes before 5',
+    'weights-zero': 'a weight of 0 is taken',
+    'weights-high': 'a weight of 65,536 is taken',
+    'weights-past-limit': '5 looks at as many weights as the limit says',
+    'weights-far': '5 looks at the first 33 weights',
+    'weights-silent': 'weights are not printed',
+    'weights-shown': 'weights are printed without a weights form too',
+    'break-by-size': 'breakpoints are divided by differences of sizes',
+    'cost-by-size': 'the cost goes by sizes',
+    'path-by-size': 'entries are tested by sizes',
+    'on-after-14': 'after 5 or 14 reading goes on',
     # what is printed
     'break-reduced': 'breakpoints are reduced',
     'break-swapped': 'the parts of a breakpoint are exchanged',
@@ -283,20 +306,23 @@ def loss_of(columns, starts):
     return sum(columns[end][start] for start, end in zip(starts, starts[1:] + [len(columns) - 1]))
 
 
-def path_of(losses):
-    """The path of models with the sizes 1, 2, 3, ... and these losses (R12 to R14, R30)."""
+def path_of(losses, weights):
+    """The path of models with the sizes 1, 2, 3, ..., these losses and these weights (R12 to R14, R30)."""
     path = []
-    for size, loss in enumerate(losses, 1):
+    for size, (loss, weight) in enumerate(zip(losses, weights), 1):
         if path and (loss > path[-1][1] or (loss == path[-1][1] and FAULT != 'same-loss')):
             continue
         while len(path) > 1:
-            (size_a, loss_a), (size_b, loss_b) = path[-2:]
-            candidate = (loss_b - loss) * (size_b - size_a)
-            before = (loss_a - loss_b) * (size - size_b)
+            (size_a, loss_a, weight_a), (size_b, loss_b, weight_b) = path[-2:]
+            near, far = weight_b - weight_a, weight - weight_b
+            if FAULT == 'path-by-size':
+                near, far = size_b - size_a, size - size_b
+            candidate = (loss_b - loss) * near
+            before = (loss_a - loss_b) * far
             if candidate < before or (FAULT == 'keep-equal' and candidate == before):
                 break
             path.pop()
-        path.append((size, loss))
+        path.append((size, loss, weight))
     return path
 
 
@@ -315,8 +341,8 @@ def segments_line(samples, columns, starts):
 
 
 @functools.lru_cache(maxsize=20000)
-def analysis(samples, limit):
-    """The path of a signal, and for each size on it what a price line says of its segments."""
+def analysis(samples, limit, weights):
+    """The path of a signal by weights (none: sizes), and for each size on it what a price line says of its segments."""
     columns = segment_losses(samples)
     largest = min(limit, len(samples))
     rows = least_losses(columns, largest)
@@ -324,9 +350,9 @@ def analysis(samples, limit):
     if FAULT == 'greedy':
         greedy = greedy_starts(columns, largest)
         losses = [loss_of(columns, starts) for starts in greedy]
-    path = path_of(losses)
+    path = path_of(losses, weights or range(1, largest + 1))
     texts = {}
-    for size, _ in path:
+    for size, _, _ in path:
         if FAULT == 'greedy':
             starts = greedy[size - 1]
         elif FAULT == 'first-cut':
@@ -339,12 +365,13 @@ def analysis(samples, limit):
 
 def breakpoints(path):
     """Numerator and denominator of each breakpoint (R11)."""
-    return [(loss_a - loss_b, size_b - size_a) for (size_a, loss_a), (size_b, loss_b) in zip(path, path[1:])]
+    by = 0 if FAULT == 'break-by-size' else 2
+    return [(before[1] - entry[1], entry[by] - before[by]) for before, entry in zip(path, path[1:])]
 
 
 def selected(path, p, q):
     """The size that the walk ends at (R20)."""
-    costs = [q * loss + p * size for size, loss in path]
+    costs = [q * loss + p * (size if FAULT == 'cost-by-size' else weight) for size, loss, weight in path]
     place = 0
     while place + 1 < len(path):
         here, there = costs[place], costs[place + 1]
@@ -356,17 +383,18 @@ def selected(path, p, q):
 
 # ---- What is judged and printed (R67 to R72)
 
-def path_line(samples, limit):
-    path = analysis(samples, limit)[0]
+def path_line(samples, limit, weights):
+    path = analysis(samples, limit, weights)[0]
+    shown = FAULT == 'weights-shown' or (weights and FAULT != 'weights-silent')
     words = ['(path']
-    for place, (size, loss) in enumerate(path):
+    for place, (size, loss, weight) in enumerate(path):
         if place > 0:
             high, low = breakpoints(path)[place - 1]
             by = math.gcd(high, low) if FAULT == 'break-reduced' else 1
             low = 1 if FAULT == 'break-places' else low
             parts = (low, high) if FAULT == 'break-swapped' else (high // by, low // by)
             words.append('(break %d %d)' % parts)
-        words.append('(size %d loss %d)' % (size, loss))
+        words.append('(size %d loss %d%s)' % (size, loss, ' weight %d' % weight if shown else ''))
     return ' '.join(words) + ')'
 
 
@@ -393,6 +421,34 @@ def read_limit(line):
     return limit
 
 
+def read_weights(line, limit):
+    items = items_of(line, b'weights')
+    weights = tuple(map(figure, items))
+    if not weights and FAULT == 'weights-none':
+        return weights
+    seen = weights[:{'weights-past-limit': limit, 'weights-far': 33}.get(FAULT)]
+    in_range = all((FAULT != 'weights-zero') <= weight <= 65535 + (FAULT == 'weights-high') for weight in seen)
+    refuse_if(not in_range and FAULT != 'weights-order', 5)
+    refuse_if(len(weights) < limit and (FAULT != 'weights-few' or not weights), 14)
+    refuse_if(len(weights) > limit and FAULT != 'weights-many', 14)
+    rising = operator.le if FAULT == 'weights-equal' else operator.lt
+    refuse_if(not all(map(rising, weights, weights[1:])), 14)
+    refuse_if(not in_range, 5)
+    return weights
+
+
+def opens_waiting(line):
+    """True if the path waits for the lines behind this one: by its first bytes alone."""
+    words = (b'(note', b'(weights')
+    if FAULT == 'path-at-weights':
+        words = (b'(note',)
+    if FAULT == 'path-at-notes':
+        words = (b'(note ', b'(note)', b'(weights')
+    if FAULT == 'path-by-word':
+        words = (b'(note ', b'(note)', b'(weights ', b'(weights)')
+    return line.startswith(words)
+
+
 def read_price(line):
     items = items_of(line, b'price')
     refuse_if(len(items) != 2)
@@ -402,7 +458,7 @@ def read_price(line):
     return p, q
 
 
-def price_line(samples, limit, line):
+def price_line(samples, limit, weights, line):
     """The line for a price; a refusal with 4 is one too (R68)."""
     try:
         p, q = read_price(line)
@@ -414,7 +470,7 @@ def price_line(samples, limit, line):
         if refused.number == 11 and FAULT == 'on-after-11':
             return '(refused 11)'
         raise
-    path, texts = analysis(samples, limit)
+    path, texts = analysis(samples, limit, weights)
     by = math.gcd(p, q) if FAULT == 'price-reduced' else 1
     return '(price %d %d %s)' % (p // by, q // by, texts[selected(path, p, q)])
 
@@ -427,10 +483,14 @@ def judge_out_of_place(line, samples, limit):
         read_price(line)
 
 
-def read_lines(lines, printed):
-    """Reads lines in turn and prints for them; answers whether there was a limit."""
-    samples = limit = late = None
+def read_lines(lines, unended, printed):
+    """Reads lines in turn and prints for them, and looks at an unended last one; answers whether there was a limit."""
+    samples = limit = due = None
+    weights = ()
     for line in lines:
+        if due and not opens_waiting(line):
+            due = False
+            printed.append(path_line(samples, limit, weights))
         if line == b'' and FAULT == 'empty-line':
             continue
         if is_note(line):
@@ -455,14 +515,25 @@ def read_lines(lines, printed):
                     continue
                 raise
             refuse_if(FAULT == 'limit-short' and limit > len(samples), 3)
-            late = path_line(samples, limit)
-            if FAULT != 'path-late':
-                printed.append(late)
+            due = True
+            if FAULT == 'path-soon':
+                due = False
+                printed.append(path_line(samples, limit, weights))
+        elif due and line.startswith(b'(weights'):
+            refuse_if(weights and FAULT != 'weights-second')
+            try:
+                weights = read_weights(line, limit)
+            except Refused as refused:
+                if FAULT != 'on-after-14' or refused.number == 11:
+                    raise
+                printed.append('(refused %d)' % refused.number)
+        elif FAULT == 'weights-late' and line.startswith(b'(weights'):
+            read_weights(line, limit)
         else:
-            if FAULT == 'path-late' and late:
-                printed.append(late)
-                late = None
-            printed.append(price_line(samples, limit, line))
+            printed.append(price_line(samples, limit, weights, line))
+    if due and not (unended and (opens_waiting(unended) or FAULT == 'path-unended')):
+        if unended or FAULT != 'path-end-lacks':
+            printed.append(path_line(samples, limit, weights))
     return limit is not None
 
 
@@ -474,7 +545,7 @@ def print_report(data, printed):
     if FAULT in ('unended-taken', 'unended-late') or (FAULT == 'unended-note' and unended.startswith(b'(note')):
         lines += [unended] if unended else []
         unended = unended if FAULT == 'unended-late' else b''
-    has_limit = read_lines(lines, printed)
+    has_limit = read_lines(lines, unended, printed)
     refuse_if(unended or len(data) > most)
     refuse_if(not has_limit and FAULT != 'no-end')
 

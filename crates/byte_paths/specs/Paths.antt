@@ -1,10 +1,11 @@
--- The calls on a path over byte strings. Sizes and denominators are items of two bytes, losses and numerators items of eight.
+-- The calls on a path over byte strings. Sizes, weights and denominators are items of two bytes, losses and numerators items of eight.
 use mathlib.Core.Path.{refl}
 use mathlib.Core.Bool.{Bool, true, false}
 use mathlib.Core.List.{List}
 use Prim.Native.Nat.{ℕ}
 use Rattle.coding.specs.Coding.{Outcome, outcome, Answers, Coding, unsigneds, none, _⊗_, Names, named, onBytes}
-use Rattle.path.specs.Model.{Model}
+use Rattle.coding.specs.Models.{modelsCoding}
+use Rattle.path.specs.Model.{Model, Lists}
 use Rattle.path.specs.Append.{PathOutcome, appendOf}
 use Rattle.path.specs.declared.PathResult.{PathResult}
 use Rattle.quadratic.specs.Quadratic.{buildBy}
@@ -12,27 +13,6 @@ use Rattle.select.specs.Select.{selectRefused, selectOf}
 use Rattle.select.specs.declared.SelectResult.{SelectResult}
 use Rattle.select.specs.Breakpoints.{BreakpointsOutcome, breakpointsOf}
 use Rattle.select.specs.declared.BreakpointsResult.{BreakpointsResult}
-
--- Models or a path: two byte strings, or the numbers that they hold.
-pub record Lists : Type 0 where
-  pub sizes : List ℕ
-  pub losses : List ℕ
-
--- The two by what they hold.
-abbrev pub lists : List ℕ → List ℕ → Lists
-lists sizes losses = record { sizes = sizes; losses = losses }
-
-abbrev pub listNames : Names Lists (List ℕ × List ℕ)
-listNames =
-    record {
-      inOrder = λ x. (x .sizes, x .losses);
-      byName = λ (sizes, losses). lists sizes losses;
-      same-order = λ x. refl;
-      same-names = λ x. refl;
-    }
-
-abbrev pub modelsCoding : Coding
-modelsCoding = named (unsigneds 2 ⊗ unsigneds 8) listNames listNames
 
 -- The answers of an append and of a build.
 abbrev pub pathAnswers : Answers PathResult
@@ -45,18 +25,18 @@ pathAnswers =
 
 -- What an append or a build leaves, as an answer with its buffers.
 abbrev pub pathTold : PathOutcome → Outcome PathResult Lists
-pathTold o = outcome (record { refusal = o .refusal; entries = o .entries; tests = record { count = o .tests } }) (lists (o .sizes) (o .losses))
+pathTold o = outcome (record { refusal = o .refusal; entries = o .entries; tests = record { count = o .tests } }) (o .buffers)
 
 -- An append of m to the path of n entries.
 abbrev pub appendCall : ℕ → Model → none .Numbers → Lists → Outcome PathResult Lists
-appendCall n m nothing b = pathTold (appendOf (b .sizes) (b .losses) n m)
+appendCall n m nothing b = pathTold (appendOf b n m)
 
 abbrev pub appendBytesOf : Lists → ℕ → Model → Outcome PathResult Lists
 appendBytesOf b n m = onBytes none modelsCoding pathAnswers (appendCall n m) tt b
 
--- A build of two lists into two buffers, by the older method where the first argument says so.
+-- A build of three lists into three buffers, by the older method where the first argument says so.
 abbrev pub buildCall : Bool → Lists → Lists → Outcome PathResult Lists
-buildCall older x b = pathTold (buildBy older (x .sizes) (x .losses) (b .sizes) (b .losses))
+buildCall older x b = pathTold (buildBy older x b)
 
 abbrev pub buildBytesBy : Bool → Lists → Lists → Outcome PathResult Lists
 buildBytesBy older = onBytes modelsCoding modelsCoding pathAnswers (buildCall older)
@@ -72,7 +52,7 @@ selectAnswers = record { number = λ r. r .refusal; refused = selectRefused; num
 
 -- The selection from the path of n entries at the penalty p / q. It has no buffers.
 abbrev pub selectCall : ℕ → ℕ → ℕ → Lists → none .Numbers → Outcome SelectResult (none .Numbers)
-selectCall n p q x nothing = outcome (selectOf (x .sizes) (x .losses) n p q) nothing
+selectCall n p q x nothing = outcome (selectOf x n p q) nothing
 
 abbrev pub selectBytesOf : Lists → ℕ → ℕ → ℕ → SelectResult
 selectBytesOf x n p q = onBytes modelsCoding none selectAnswers (selectCall n p q) x tt .answer
@@ -108,7 +88,7 @@ breakpointsTold o = outcome (record { refusal = o .refusal; count = o .count }) 
 
 -- The breakpoints of the path of n entries, written to two buffers.
 abbrev pub breakpointsCall : ℕ → Lists → Fractions → Outcome BreakpointsResult Fractions
-breakpointsCall n x b = breakpointsTold (breakpointsOf (x .sizes) (x .losses) n (b .numerators) (b .denominators))
+breakpointsCall n x b = breakpointsTold (breakpointsOf x n (b .numerators) (b .denominators))
 
 abbrev pub breakpointsBytesOf : Lists → ℕ → Fractions → Outcome BreakpointsResult Fractions
 breakpointsBytesOf x n b = onBytes modelsCoding fractionsCoding breakpointsAnswers (breakpointsCall n) x b

@@ -1,27 +1,68 @@
--- The calls on signals over byte strings. Samples and levels are items of two bytes with a sign, starts and sizes items of two without
--- one, losses items of eight, and the scratch is bytes.
+-- The calls on signals over byte strings. Samples and levels are items of two bytes with a sign, starts, sizes and weights items of two
+-- without one, losses items of eight, and the scratch is bytes.
 use mathlib.Core.Path.{refl}
 use mathlib.Core.List.{List}
 use Prim.Native.Nat.{ℕ}
 use lib.IntN.{ℤ}
 use Rattle.coding.specs.Coding.{Outcome, outcome, Answers, Coding, unsigneds, signeds, raw, _⊗_, Names, named, onBytes}
+use Rattle.coding.specs.Models.{modelsCoding}
+use Rattle.path.specs.Model.{Lists}
 use Rattle.signal.specs.SignalPath.{PathBuffers, pathBuffers, SignalPathOutcome, signalPathOf}
 use Rattle.signal.specs.Split.{SplitBuffers, SplitOutcome, splitOf}
 use Rattle.signal.specs.declared.SignalPathResult.{SignalPathResult}
 use Rattle.signal.specs.declared.SplitResult.{SplitResult}
 
--- The buffers of a path call are three byte strings, or the numbers that they hold.
-abbrev pub pathNames : Names PathBuffers (List ℕ × (List ℕ × List ℕ))
+-- What a call on a signal only reads: two byte strings, of samples and of weights.
+pub record SignalStrings : Type 0 where
+  pub samples : List ℕ
+  pub weights : List ℕ
+
+-- The two by what they hold.
+abbrev pub signalStrings : List ℕ → List ℕ → SignalStrings
+signalStrings samples weights = record { samples = samples; weights = weights }
+
+-- The numbers that they hold.
+pub record SignalNumbers : Type 0 where
+  pub samples : List ℤ
+  pub weights : List ℕ
+
+-- The two by what they hold.
+abbrev pub signalNumbers : List ℤ → List ℕ → SignalNumbers
+signalNumbers samples weights = record { samples = samples; weights = weights }
+
+abbrev pub signalStringNames : Names SignalStrings (List ℕ × List ℕ)
+signalStringNames =
+    record {
+      inOrder = λ x. (x .samples, x .weights);
+      byName = λ (samples, weights). signalStrings samples weights;
+      same-order = λ x. refl;
+      same-names = λ x. refl;
+    }
+
+abbrev pub signalNumberNames : Names SignalNumbers (List ℤ × List ℕ)
+signalNumberNames =
+    record {
+      inOrder = λ x. (x .samples, x .weights);
+      byName = λ (samples, weights). signalNumbers samples weights;
+      same-order = λ x. refl;
+      same-names = λ x. refl;
+    }
+
+abbrev pub signalCoding : Coding
+signalCoding = named (signeds ⊗ unsigneds 2) signalStringNames signalNumberNames
+
+-- The buffers of a path call are four byte strings, or the numbers that they hold.
+abbrev pub pathNames : Names PathBuffers (Lists × List ℕ)
 pathNames =
     record {
-      inOrder = λ b. (b .sizes, (b .losses, b .scratch));
-      byName = λ (sizes, (losses, scratch)). pathBuffers sizes losses scratch;
+      inOrder = λ b. (b .lists, b .scratch);
+      byName = λ (t, scratch). pathBuffers t scratch;
       same-order = λ b. refl;
       same-names = λ b. refl;
     }
 
 abbrev pub pathCoding : Coding
-pathCoding = named (unsigneds 2 ⊗ unsigneds 8 ⊗ raw) pathNames pathNames
+pathCoding = named (modelsCoding ⊗ raw) pathNames pathNames
 
 abbrev pub signalPathAnswers : Answers SignalPathResult
 signalPathAnswers =
@@ -31,12 +72,12 @@ signalPathAnswers =
 abbrev pub signalPathTold : SignalPathOutcome → Outcome SignalPathResult PathBuffers
 signalPathTold o = outcome (record { refusal = o .refusal; entries = o .entries }) (o .buffers)
 
--- The path of a signal, with at most `limit` segments, each of at least d samples.
-abbrev pub signalPathCall : ℕ → ℕ → List ℤ → PathBuffers → Outcome SignalPathResult PathBuffers
-signalPathCall limit d samples b = signalPathTold (signalPathOf samples limit d b)
+-- The path of a signal by weights, with at most `limit` segments, each of at least d samples.
+abbrev pub signalPathCall : ℕ → ℕ → SignalNumbers → PathBuffers → Outcome SignalPathResult PathBuffers
+signalPathCall limit d x b = signalPathTold (signalPathOf (x .samples) limit d (x .weights) b)
 
-abbrev pub signalPathBytesOf : List ℕ → ℕ → ℕ → PathBuffers → Outcome SignalPathResult PathBuffers
-signalPathBytesOf samples limit d = onBytes signeds pathCoding signalPathAnswers (signalPathCall limit d) samples
+abbrev pub signalPathBytesOf : SignalStrings → ℕ → ℕ → PathBuffers → Outcome SignalPathResult PathBuffers
+signalPathBytesOf x limit d = onBytes signalCoding pathCoding signalPathAnswers (signalPathCall limit d) x
 
 -- The byte strings that a split is lent.
 pub record SplitStrings : Type 0 where
@@ -45,9 +86,8 @@ pub record SplitStrings : Type 0 where
   pub path : PathBuffers
 
 -- The strings by what they hold.
-abbrev pub splitStrings : List ℕ → List ℕ → List ℕ → List ℕ → List ℕ → SplitStrings
-splitStrings starts levels sizes losses scratch =
-    record { starts = starts; levels = levels; path = pathBuffers sizes losses scratch }
+abbrev pub splitStrings : List ℕ → List ℕ → Lists → List ℕ → SplitStrings
+splitStrings starts levels t scratch = record { starts = starts; levels = levels; path = pathBuffers t scratch }
 
 abbrev pub splitStringNames : Names SplitStrings (List ℕ × (List ℕ × PathBuffers))
 splitStringNames =
@@ -83,9 +123,9 @@ abbrev pub splitTold : SplitOutcome → Outcome SplitResult SplitBuffers
 splitTold o =
     outcome (record { refusal = o .refusal; segments = o .segments; loss = o .loss; entries = o .entries }) (o .buffers)
 
--- The split of a signal at the penalty p / q, with at most `limit` segments, each of at least d samples.
-abbrev pub splitCall : ℕ → ℕ → ℕ → ℕ → List ℤ → SplitBuffers → Outcome SplitResult SplitBuffers
-splitCall limit d p q samples b = splitTold (splitOf samples limit d p q b)
+-- The split of a signal at the penalty p / q by weights, with at most `limit` segments, each of at least d samples.
+abbrev pub splitCall : ℕ → ℕ → ℕ → ℕ → SignalNumbers → SplitBuffers → Outcome SplitResult SplitBuffers
+splitCall limit d p q x b = splitTold (splitOf (x .samples) limit d (x .weights) p q b)
 
-abbrev pub splitBytesOf : List ℕ → ℕ → ℕ → ℕ → ℕ → SplitStrings → Outcome SplitResult SplitStrings
-splitBytesOf samples limit d p q = onBytes signeds splitCoding splitAnswers (splitCall limit d p q) samples
+abbrev pub splitBytesOf : SignalStrings → ℕ → ℕ → ℕ → ℕ → SplitStrings → Outcome SplitResult SplitStrings
+splitBytesOf x limit d p q = onBytes signalCoding splitCoding splitAnswers (splitCall limit d p q) x

@@ -10,8 +10,9 @@ use lib.ListN.{length, take}
 use borrow.Author.Tests.{leb-true}
 use Rattle.coding.specs.Coding.{Outcome, outcome}
 use Rattle.coding.proofs.Cutting.{Cutting, firstUnsigneds, firstSigneds, allRaw, _⊠_, namedCut}
+use Rattle.coding.proofs.Models.{modelsCut}
 use Rattle.coding.proofs.Calls.{longer, Cut, cut-by, told}
-use Rattle.path.specs.Model.{Model}
+use Rattle.path.specs.Model.{lengths}
 use Rattle.path.specs.Refusal.{Check, check, refusalOf, roomFor}
 use Rattle.path.proofs.Cuts.{overwritten-cut, leb-take}
 use Rattle.select.specs.Penalty.{validPenalty}
@@ -31,14 +32,11 @@ use Rattle.byte_signals.proofs.SignalPaths.{samplesCut}
 use Rattle.byte_streams.specs.Streams.{streamNames, streamCoding, extendAnswers, extendTold, extendCall, segmentStringNames, segmentBufferNames, segmentsCoding, splitFromAnswers, splitFromTold, splitFromCall}
 
 abbrev pub streamCut : Cutting streamCoding
-streamCut = namedCut streamNames streamNames (allRaw ⊠ firstUnsigneds 2 maxRows ⊠ firstUnsigneds 8 maxRows)
+streamCut = namedCut streamNames streamNames (allRaw ⊠ modelsCut maxRows)
 
 module _ (x : ℤ) (limit : ℕ) where
-  abbrev roomsOf : StreamBuffers → List ℕ
-  roomsOf b = length (b .sizes) ∷ length (b .losses) ∷ []
-
   abbrev checks : List ℤ → StreamBuffers → List Check
-  checks xs b = extendChecks (length xs) limit (b .table) (roomsOf b)
+  checks xs b = extendChecks (length xs) limit (b .table) (lengths (b .path))
 
   abbrev accepted : List ℤ → StreamBuffers → ExtendOutcome
   accepted xs b = extendedTo (xs ++ (x ∷ [])) limit b
@@ -54,22 +52,24 @@ module _ (x : ℤ) (limit : ℕ) where
       check-cut (check 11 (wholeItems 8 (b .table))) _ _
       (λ _. limit-cut (λ n. leb (suc n) maxSamples) (λ n h. omega (arith, leb-true (suc n) maxSamples h)) xs maxRows limit
       (rooms (streamCut .taken b)) (rooms b)
-      (λ h n. rw (leb-take (min limit (suc n)) maxRows (b .sizes) (omega arith), leb-take (min limit (suc n)) maxRows (b .losses) (omega arith))))
+      (λ h n. rw (
+        leb-take (min limit (suc n)) maxRows (b .path .sizes) (omega arith),
+        leb-take (min limit (suc n)) maxRows (b .path .losses) (omega arith),
+        leb-take (min limit (suc n)) maxRows (b .path .weights) (omega arith),
+      )))
     where
       rooms : StreamBuffers → ℕ → List Check
-      rooms d n = tableChecks (d .table) n ++ (check 9 (roomFor (min limit (suc n)) (roomsOf d)) ∷ [])
+      rooms d n = tableChecks (d .table) n ++ (check 9 (roomFor (min limit (suc n)) (lengths (d .path))) ∷ [])
 
   left-cut : (xs : List ℤ) (b : StreamBuffers) → refusalOf (checks xs b) ≡ 0 → left xs b ≡ cutLeft (take readSamples xs) b
   left-cut xs b e =
-      let ok = extendable (length xs) limit (b .table) (length (b .sizes)) (length (b .losses)) e in
+      let ok = extendable (length xs) limit (b .table) (b .path) e in
       let ys = xs ++ (x ∷ []) in
       let table = withColumn ys (b .table) maxRows in
       let n = min limit (length ys) in
-      let filled = filled-cut (columnLosses table (length ys)) n n maxRows (omega arith) (omega (arith, ok .few)) in
-      let sizes = filled (λ (m : Model). m .size) (b .sizes) in
-      let losses = filled (λ (m : Model). m .loss) (b .losses) in
+      let filled = filled-cut [] (columnLosses table (length ys)) n n maxRows (omega arith) (omega (arith, ok .few)) (b .path) in
       subst (λ (zs : List ℤ). left xs b ≡ cutLeft zs b) (sym (few-samples xs (omega (arith, ok .short))))
-      (λ i. outcome record { refusal = 0; entries = length (columnPath table (length ys) n) } (streamBuffers table (sizes i) (losses i)))
+      (λ i. outcome record { refusal = 0; entries = length (columnPath table (length ys) n) } (streamBuffers table (filled i)))
 
   pub extend-cut : (xs : List ℤ) (b : StreamBuffers) → Cut samplesCut streamCut extendAnswers (extendCall x limit) xs b
   unfolding extendOf
@@ -111,7 +111,7 @@ module _ (limit p q : ℕ) (table : List ℕ) where
       let ok = splittable (length xs) limit p q table (length (b .starts)) (length (b .levels)) e in
       let n = placeCount xs limit in
       let k = segmentsFor xs in
-      let few : k ≤ maxRows = omega (arith, segments-few (columnLosses table (length xs)) n p q, ok .few) in
+      let few : k ≤ maxRows = omega (arith, segments-few [] (columnLosses table (length xs)) n p q, ok .few) in
       let cuts = tableSegmentation xs table k in
       let starts = overwritten-cut (startsOf cuts) maxRows (b .starts) (pieces-few pieceStart xs (value table) 1 k maxRows few (omega arith)) in
       let levels = overwritten-cut (levelsOf cuts) maxRows (b .levels) (pieces-few pieceLevel xs (value table) 1 k maxRows few (omega arith)) in

@@ -1,27 +1,30 @@
--- The calls on streaming signals over byte strings. Samples and levels are items of two bytes with a sign, starts and sizes items of
--- two without one, and losses items of eight. The table is bytes in the call on numbers too, whose first check is that of its length.
+-- The calls on streaming signals over byte strings. Samples and levels are items of two bytes with a sign, starts, sizes and weights
+-- items of two without one, and losses items of eight. The table is bytes in the call on numbers too, whose first check is that of its
+-- length.
 use mathlib.Core.Path.{refl}
 use mathlib.Core.List.{List}
 use Prim.Native.Nat.{ℕ}
 use lib.IntN.{ℤ}
 use Rattle.coding.specs.Coding.{Outcome, outcome, Answers, Coding, unsigneds, signeds, raw, _⊗_, Names, named, onBytes}
+use Rattle.coding.specs.Models.{modelsCoding}
+use Rattle.path.specs.Model.{Lists}
 use Rattle.stream.specs.Extend.{StreamBuffers, streamBuffers, ExtendOutcome, extendOf}
 use Rattle.stream.specs.SplitFrom.{SegmentBuffers, segmentBuffers, SplitFromOutcome, splitFromOf}
 use Rattle.stream.specs.declared.ExtendResult.{ExtendResult}
 use Rattle.stream.specs.declared.SplitFromResult.{SplitFromResult}
 
--- The buffers of an extension are three byte strings, or the numbers that they hold.
-abbrev pub streamNames : Names StreamBuffers (List ℕ × (List ℕ × List ℕ))
+-- The buffers of an extension are four byte strings, or the numbers that they hold.
+abbrev pub streamNames : Names StreamBuffers (List ℕ × Lists)
 streamNames =
     record {
-      inOrder = λ b. (b .table, (b .sizes, b .losses));
-      byName = λ (table, (sizes, losses)). streamBuffers table sizes losses;
+      inOrder = λ b. (b .table, b .path);
+      byName = λ (table, path). streamBuffers table path;
       same-order = λ b. refl;
       same-names = λ b. refl;
     }
 
 abbrev pub streamCoding : Coding
-streamCoding = named (raw ⊗ unsigneds 2 ⊗ unsigneds 8) streamNames streamNames
+streamCoding = named (raw ⊗ modelsCoding) streamNames streamNames
 
 abbrev pub extendAnswers : Answers ExtendResult
 extendAnswers =

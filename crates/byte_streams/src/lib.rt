@@ -1,9 +1,10 @@
-// The calls on streaming signals over byte strings. Samples and levels are two bytes each with a sign, starts and sizes two without
-// one, losses eight, all with the low byte first. The table is handed on as it is.
+// The calls on streaming signals over byte strings. Samples and levels are two bytes each with a sign, starts, sizes and weights
+// two without one, losses eight, all with the low byte first. The table is handed on as it is.
 
 ghost use mathlib.Core.Path.{_≡_};
 ghost use lib.ListN.{length};
 ghost use Rattle.coding.specs.Coding.{outcome};
+ghost use Rattle.path.specs.Model.{lists};
 ghost use Rattle.stream.specs.Extend.{streamBuffers};
 ghost use Rattle.byte_streams.specs.Streams.{extendBytesOf, segmentStrings, splitFromBytesOf};
 ghost use Rattle.byte_streams.specs.Inner.{ExtendFits, SplitFromFits};
@@ -26,20 +27,34 @@ fn extend_items(
     table: &mut [u8],
     path_sizes: &mut [u8],
     path_losses: &mut [u8],
+    path_weights: &mut [u8],
     sample_items: &mut [i16],
     size_items: &mut [u64],
     loss_items: &mut [u64],
+    path_weight_items: &mut [u64],
 ) -> ExtendResult
     requires { ⌜ ExtendFits
-        (now samples) (streamBuffers (now table) (now «path_sizes») (now «path_losses»))
-        (length (now «sample_items»)) (length (now «size_items»)) (length (now «loss_items»)) ⌝ }
+        (now samples) (streamBuffers (now table) (lists (now «path_sizes») (now «path_losses») (now «path_weights»)))
+        (length (now «sample_items»))
+        (length (now «size_items»)) (length (now «loss_items»)) (length (now «path_weight_items»)) ⌝ }
     ensures { λ r. ⌜ outcome r
-        (streamBuffers (now (table .exit)) (now («path_sizes» .exit)) (now («path_losses» .exit)))
+        (streamBuffers
+        (now (table .exit))
+        (lists (now («path_sizes» .exit)) (now («path_losses» .exit)) (now («path_weights» .exit))))
         ≡ extendBytesOf (now (samples .entry)) sample «max_segments»
-        (streamBuffers (now (table .entry)) (now («path_sizes» .entry)) (now («path_losses» .entry))) ⌝ }
+        (streamBuffers
+        (now (table .entry))
+        (lists (now («path_sizes» .entry)) (now («path_losses» .entry)) (now («path_weights» .entry)))) ⌝ }
 {
     read_i16s(samples, sample_items);
-    read_models(path_sizes, path_losses, size_items, loss_items);
+    read_models(
+        path_sizes,
+        path_losses,
+        path_weights,
+        size_items,
+        loss_items,
+        path_weight_items,
+    );
     let extension = stream::extend(
         sample_items,
         sample,
@@ -47,13 +62,16 @@ fn extend_items(
         table,
         size_items,
         loss_items,
+        path_weight_items,
     );
     encode_models(
         extension.refusal,
         path_sizes,
         path_losses,
+        path_weights,
         size_items,
         loss_items,
+        path_weight_items,
     );
     extension
 }
@@ -66,13 +84,22 @@ pub fn extend(
     table: &mut [u8],
     path_sizes: &mut [u8],
     path_losses: &mut [u8],
+    path_weights: &mut [u8],
 ) -> ExtendResult
     ensures { λ r. ⌜ outcome r
-        (streamBuffers (now (table .exit)) (now («path_sizes» .exit)) (now («path_losses» .exit)))
+        (streamBuffers
+        (now (table .exit))
+        (lists (now («path_sizes» .exit)) (now («path_losses» .exit)) (now («path_weights» .exit))))
         ≡ extendBytesOf (now (samples .entry)) sample «max_segments»
-        (streamBuffers (now (table .entry)) (now («path_sizes» .entry)) (now («path_losses» .entry))) ⌝ }
+        (streamBuffers
+        (now (table .entry))
+        (lists (now («path_sizes» .entry)) (now («path_losses» .entry)) (now («path_weights» .entry)))) ⌝ }
 {
-    if samples.len() % 2 + path_sizes.len() % 2 + path_losses.len() % 8 != 0 {
+    let spare = samples.len() % 2
+        + path_sizes.len() % 2
+        + path_losses.len() % 8
+        + path_weights.len() % 2;
+    if spare != 0 {
         return ExtendResult {
             refusal: 11,
             entries: 0,
@@ -81,9 +108,11 @@ pub fn extend(
     let mut sample_items = [0i16; READ_SAMPLES];
     let mut size_items = [0u64; MAX_ROWS];
     let mut loss_items = [0u64; MAX_ROWS];
+    let mut path_weight_items = [0u64; MAX_ROWS];
     let n = smaller(samples.len() / 2, READ_SAMPLES);
     let s = smaller(path_sizes.len() / 2, MAX_ROWS);
     let l = smaller(path_losses.len() / 8, MAX_ROWS);
+    let w = smaller(path_weights.len() / 2, MAX_ROWS);
     extend_items(
         samples,
         sample,
@@ -91,9 +120,11 @@ pub fn extend(
         table,
         path_sizes,
         path_losses,
+        path_weights,
         &mut sample_items[..n],
         &mut size_items[..s],
         &mut loss_items[..l],
+        &mut path_weight_items[..w],
     )
 }
 

@@ -1,5 +1,6 @@
 pub mod Strings
 pub mod Cutting
+pub mod Models
 pub mod Calls
 pub mod Encoding
 pub mod Small

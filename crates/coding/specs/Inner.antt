@@ -3,11 +3,12 @@
 use mathlib.Core.Path.{_≡_}
 use mathlib.Core.Bool.{cond}
 use mathlib.Core.List.{List, _++_, map}
-use Prim.Native.Nat.{ℕ, _*_, _≤_}
+use Prim.Native.Nat.{ℕ, _*_, _/_, _≤_, min}
 use lib.Dec.{eqb}
 use lib.IntN.{ℤ}
 use lib.ListN.{length, drop}
 use Rattle.layout.specs.Items.{itemsTo, bytesOf, signedOf, unsignedOf}
+use Rattle.path.specs.Model.{Lists}
 
 -- What a string holds after a list of items of k bytes was encoded to it, by the refusal of the call.
 abbrev pub encodedTo : ℕ → ℕ → List ℕ → List ℕ → List ℕ
@@ -22,15 +23,29 @@ pub record Holds (j k a b : ℕ) (x y : List ℕ) : Type 0 where
   pub first-has : j * a ≤ length x
   pub second-has : k * b ≤ length y
 
--- The sizes and losses that were read.
-pub record ModelsRead (sizes losses s l : List ℕ) (a b : ℕ) : Type 0 where
+-- Three lists have as many places as there are sizes, losses and weights to look at, n at most of each.
+pub record ListsFit (n : ℕ) (x : Lists) (a b c : ℕ) : Type 0 where
+  pub sizes-fit : a ≡ min (length (x .sizes) / 2) n
+  pub losses-fit : b ≡ min (length (x .losses) / 8) n
+  pub weights-fit : c ≡ min (length (x .weights) / 2) n
+
+-- Three strings have a sizes, b losses and c weights.
+pub record HoldsModels (a b c : ℕ) (sizes losses weights : List ℕ) : Type 0 where
+  pub sizes-have : 2 * a ≤ length sizes
+  pub losses-have : 8 * b ≤ length losses
+  pub weights-have : 2 * c ≤ length weights
+
+-- The sizes, losses and weights that were read.
+pub record ModelsRead (sizes losses weights s l w : List ℕ) (a b c : ℕ) : Type 0 where
   pub sizes-are : s ≡ itemsTo 2 sizes a
   pub losses-are : l ≡ itemsTo 8 losses b
+  pub weights-are : w ≡ itemsTo 2 weights c
 
--- The strings of sizes and losses that were written.
-pub record ModelsEncoded (refusal : ℕ) (sizes losses s l sizes' losses' : List ℕ) : Type 0 where
+-- The strings of sizes, losses and weights that were written.
+pub record ModelsEncoded (refusal : ℕ) (sizes losses weights s l w sizes' losses' weights' : List ℕ) : Type 0 where
   pub sizes-are : sizes' ≡ encodedTo refusal 2 sizes s
   pub losses-are : losses' ≡ encodedTo refusal 8 losses l
+  pub weights-are : weights' ≡ encodedTo refusal 2 weights w
 
 -- The starts and levels that were read.
 pub record SegmentsRead (starts levels s : List ℕ) (l : List ℤ) (a b : ℕ) : Type 0 where

@@ -4,7 +4,7 @@
 ghost use mathlib.Core.Path.{_≡_};
 ghost use Prim.Native.Nat.{_*_, _≤_};
 ghost use lib.ListN.{length};
-ghost use Rattle.coding.specs.Inner.{encodedTo, encodedSigned, Holds, ModelsRead, ModelsEncoded, SegmentsRead, SegmentsEncoded};
+ghost use Rattle.coding.specs.Inner.{encodedTo, encodedSigned, Holds, HoldsModels, ModelsRead, ModelsEncoded, SegmentsRead, SegmentsEncoded};
 use layout::read_i16s;
 use layout::read_items;
 use layout::read_u16s;
@@ -45,32 +45,47 @@ pub fn encode_i16s(refusal: u64, bytes: &mut [u8], items: &[i16])
     write_i16s(bytes, items);
 }
 
-// Reads as many sizes and losses as the two lists have places.
-pub fn read_models(sizes: &[u8], losses: &[u8], size_items: &mut [u64], loss_items: &mut [u64])
-    requires { ⌜ Holds 2 8 (length (now «size_items»)) (length (now «loss_items»)) (now sizes) (now losses) ⌝ }
-    ensures { λ r. ⌜ ModelsRead (now (sizes .entry)) (now (losses .entry))
-        (now («size_items» .exit)) (now («loss_items» .exit))
-        (length (now («size_items» .entry))) (length (now («loss_items» .entry))) ⌝ }
+// Reads as many sizes, losses and weights as the three lists have places.
+pub fn read_models(
+    sizes: &[u8],
+    losses: &[u8],
+    weights: &[u8],
+    size_items: &mut [u64],
+    loss_items: &mut [u64],
+    weight_items: &mut [u64],
+)
+    requires { ⌜ HoldsModels
+        (length (now «size_items»)) (length (now «loss_items»)) (length (now «weight_items»))
+        (now sizes) (now losses) (now weights) ⌝ }
+    ensures { λ r. ⌜ ModelsRead (now (sizes .entry)) (now (losses .entry)) (now (weights .entry))
+        (now («size_items» .exit)) (now («loss_items» .exit)) (now («weight_items» .exit))
+        (length (now («size_items» .entry))) (length (now («loss_items» .entry))) (length (now («weight_items» .entry))) ⌝ }
 {
     read_items(sizes, 2, size_items);
     read_items(losses, 8, loss_items);
+    read_items(weights, 2, weight_items);
 }
 
-// Writes sizes and losses to the front of two byte strings, unless the call was refused.
+// Writes sizes, losses and weights to the front of three byte strings, unless the call was refused.
 pub fn encode_models(
     refusal: u64,
     sizes: &mut [u8],
     losses: &mut [u8],
+    weights: &mut [u8],
     size_items: &[u64],
     loss_items: &[u64],
+    weight_items: &[u64],
 )
-    requires { ⌜ Holds 2 8 (length (now «size_items»)) (length (now «loss_items»)) (now sizes) (now losses) ⌝ }
-    ensures { λ r. ⌜ ModelsEncoded refusal (now (sizes .entry)) (now (losses .entry))
-        (now («size_items» .entry)) (now («loss_items» .entry))
-        (now (sizes .exit)) (now (losses .exit)) ⌝ }
+    requires { ⌜ HoldsModels
+        (length (now «size_items»)) (length (now «loss_items»)) (length (now «weight_items»))
+        (now sizes) (now losses) (now weights) ⌝ }
+    ensures { λ r. ⌜ ModelsEncoded refusal (now (sizes .entry)) (now (losses .entry)) (now (weights .entry))
+        (now («size_items» .entry)) (now («loss_items» .entry)) (now («weight_items» .entry))
+        (now (sizes .exit)) (now (losses .exit)) (now (weights .exit)) ⌝ }
 {
     encode_items(refusal, sizes, 2, size_items);
     encode_items(refusal, losses, 8, loss_items);
+    encode_items(refusal, weights, 2, weight_items);
 }
 
 // Reads as many starts and levels as the two lists have places.

@@ -1,4 +1,4 @@
-// Random paths of 24 entries, with two neighbours exchanged, one size or loss replaced, or another number of entries said:
+// Random paths of 24 entries, with two neighbours exchanged, one size, loss or weight replaced, or another number of entries said:
 // every call refuses those, and only those, that a test of all pairs of entries finds out of order.
 
 use crate::models;
@@ -19,20 +19,25 @@ struct Counts {
     refused: u64,
 }
 
-// Whether entry j is in range, and larger with a smaller loss than each one before it.
-fn follows_all(sizes: &[u64], losses: &[u64], j: usize) -> bool {
+// Whether entry j is larger and heavier than entry i and has a smaller loss.
+fn follows(sizes: &[u64], losses: &[u64], weights: &[u64], i: usize, j: usize) -> bool {
+    at(sizes, i) < at(sizes, j) && at(losses, j) < at(losses, i) && at(weights, i) < at(weights, j)
+}
+
+// Whether entry j is in range, and follows each one before it.
+fn follows_all(sizes: &[u64], losses: &[u64], weights: &[u64], j: usize) -> bool {
     for i in 0..j {
-        if at(sizes, j) <= at(sizes, i) || at(losses, i) <= at(losses, j) {
+        if !follows(sizes, losses, weights, i, j) {
             return false;
         }
     }
-    in_range(at(sizes, j), at(losses, j))
+    in_range(at(sizes, j), at(losses, j), at(weights, j))
 }
 
-// Whether the first entries of two lists are a path in order. A value past the end of a list is NONE, which is not in range.
-fn is_path(sizes: &[u64], losses: &[u64], entries: usize) -> bool {
+// Whether the first entries of three lists are a path in order. A value past the end of a list is NONE, which is not in range.
+fn is_path(sizes: &[u64], losses: &[u64], weights: &[u64], entries: usize) -> bool {
     for j in 0..entries {
-        if !follows_all(sizes, losses, j) {
+        if !follows_all(sizes, losses, weights, j) {
             return false;
         }
     }
@@ -40,21 +45,52 @@ fn is_path(sizes: &[u64], losses: &[u64], entries: usize) -> bool {
 }
 
 // 1 where listing the breakpoints of a path is refused and it is good, or the other way round, and else 0.
-fn listing_fault(sizes: &[u64], losses: &[u64], entries: usize, good: bool) -> u64 {
+fn listing_fault(
+    sizes: &[u64],
+    losses: &[u64],
+    weights: &[u64],
+    entries: usize,
+    good: bool,
+) -> u64 {
     let mut numerators = [MARK; 24];
     let mut denominators = [MARK; 24];
-    let listed = select::breakpoints(sizes, losses, entries, &mut numerators, &mut denominators);
+    let listed = select::breakpoints(
+        sizes,
+        losses,
+        weights,
+        entries,
+        &mut numerators,
+        &mut denominators,
+    );
     fault((listed.refusal == 8) != good)
 }
 
 // The mismatches of an append, which changes nothing if it is refused.
-fn append_faults(sizes: [u64; 24], losses: [u64; 24], entries: usize, good: bool) -> u64 {
+fn append_faults(
+    sizes: [u64; 24],
+    losses: [u64; 24],
+    weights: [u64; 24],
+    entries: usize,
+    good: bool,
+) -> u64 {
     let mut path_sizes = sizes;
     let mut path_losses = losses;
-    let made = path::append(&mut path_sizes, &mut path_losses, entries, 65535, 0);
+    let mut path_weights = weights;
+    let made = path::append(
+        &mut path_sizes,
+        &mut path_losses,
+        &mut path_weights,
+        entries,
+        65535,
+        0,
+        65535,
+    );
     let changed = plus(
         differences(&path_sizes, &sizes),
-        differences(&path_losses, &losses),
+        plus(
+            differences(&path_losses, &losses),
+            differences(&path_weights, &weights),
+        ),
     );
     plus(
         fault((made.refusal == 8) != good),
@@ -63,15 +99,18 @@ fn append_faults(sizes: [u64; 24], losses: [u64; 24], entries: usize, good: bool
 }
 
 // The mismatches of a path of so many entries, and 1 where it is refused.
-fn check_path(sizes: [u64; 24], losses: [u64; 24], entries: usize) -> Counts {
-    let good = is_path(&sizes, &losses, entries);
-    let selected = select::select(&sizes, &losses, entries, 1, 1);
+fn check_path(sizes: [u64; 24], losses: [u64; 24], weights: [u64; 24], entries: usize) -> Counts {
+    let good = is_path(&sizes, &losses, &weights, entries);
+    let selected = select::select(&sizes, &losses, &weights, entries, 1, 1);
     let refusals = plus(
         fault((selected.refusal == 8) != good),
-        listing_fault(&sizes, &losses, entries, good),
+        listing_fault(&sizes, &losses, &weights, entries, good),
     );
     Counts {
-        faults: plus(refusals, append_faults(sizes, losses, entries, good)),
+        faults: plus(
+            refusals,
+            append_faults(sizes, losses, weights, entries, good),
+        ),
         refused: fault(selected.refusal != 8),
     }
 }
@@ -85,18 +124,21 @@ fn exchange(values: [u64; 24], i: usize, j: usize, kind: u64) -> [u64; 24] {
     changed
 }
 
-// The path n: now and then with an entry more said than there are, with the entry i exchanged with the one before it, or with
-// a size or a loss of it damaged.
+// The path n: now and then with an entry more said than there are, with size and loss of the entry i, or its weight, exchanged with
+// those of the one before it, or with one of the three damaged.
 fn check_random(n: u64) -> Counts {
     let x = start(2, n);
     let y = next(x);
-    let sizes = models::sizes(1, x);
-    let losses = models::losses(1, y, &sizes, 0);
+    let sizes = models::rising(1, x);
+    let weights = models::rising(1, next(y));
+    let losses = models::losses(1, y, &weights, 0);
     let i = (x % 23) as usize + 1;
     let j = i - (y % 2) as usize;
+    let k = i - (y / 2 % 2) as usize;
     check_path(
         exchange(sizes, i, j, n % 12),
         exchange(losses, i, j, n / 12 % 12),
+        exchange(weights, i, k, n / 144 % 12),
         25 - (y % 5) as usize,
     )
 }

@@ -29,17 +29,21 @@ struct Totals {
 fn append_next(
     sizes: &[u64],
     losses: &[u64],
+    weights: &[u64],
     i: usize,
     path_sizes: &mut [u64],
     path_losses: &mut [u64],
+    path_weights: &mut [u64],
     before: History,
 ) -> History {
     let made = path::append(
         path_sizes,
         path_losses,
+        path_weights,
         before.entries as usize,
         at(sizes, i),
         at(losses, i),
+        at(weights, i),
     );
     history::after(before, answer_of(made), 1)
 }
@@ -48,39 +52,77 @@ fn append_next(
 fn append_all(
     sizes: &[u64],
     losses: &[u64],
+    weights: &[u64],
     path_sizes: &mut [u64],
     path_losses: &mut [u64],
+    path_weights: &mut [u64],
 ) -> History {
     let mut made = history::empty();
     for i in 0..sizes.len() {
-        made = append_next(sizes, losses, i, path_sizes, path_losses, made);
+        made = append_next(
+            sizes,
+            losses,
+            weights,
+            i,
+            path_sizes,
+            path_losses,
+            path_weights,
+            made,
+        );
     }
     made
 }
 
 // The mismatches of the models appended one by one.
-fn append_faults(sizes: &[u64], losses: &[u64]) -> u64 {
+fn append_faults(sizes: &[u64], losses: &[u64], weights: &[u64]) -> u64 {
     let mut path_sizes = [MARK; 12];
     let mut path_losses = [MARK; 12];
-    let made = append_all(sizes, losses, &mut path_sizes, &mut path_losses);
-    history::faults(sizes, losses, sizes.len(), &path_sizes, &path_losses, made)
+    let mut path_weights = [MARK; 12];
+    let made = append_all(
+        sizes,
+        losses,
+        weights,
+        &mut path_sizes,
+        &mut path_losses,
+        &mut path_weights,
+    );
+    history::faults(
+        sizes,
+        losses,
+        weights,
+        sizes.len(),
+        &path_sizes,
+        &path_losses,
+        &path_weights,
+        made,
+    )
 }
 
 // The mismatches of a build by the older method, which reports no tests.
-fn quadratic_faults(sizes: &[u64], losses: &[u64]) -> u64 {
+fn quadratic_faults(sizes: &[u64], losses: &[u64], weights: &[u64]) -> u64 {
     let mut path_sizes = [MARK; 12];
     let mut path_losses = [MARK; 12];
+    let mut path_weights = [MARK; 12];
     let answer = answer_of(quadratic::build_quadratic(
         sizes,
         losses,
+        weights,
         &mut path_sizes,
         &mut path_losses,
+        &mut path_weights,
     ));
     let made = history::after(history::empty(), answer, sizes.len() as u64);
-    plus(
-        history::path_faults(sizes, losses, sizes.len(), &path_sizes, &path_losses, made),
-        differs(made.tests, 0),
-    )
+    let path = history::path_faults(
+        sizes,
+        losses,
+        weights,
+        sizes.len(),
+        &path_sizes,
+        &path_losses,
+        &path_weights,
+        made,
+    );
+    plus(path, differs(made.tests, 0))
 }
 
 // The distance of the values i and i + 1 of the first m, and a mark past them.
@@ -104,12 +146,13 @@ fn gap_faults(gaps: &[u64], values: &[u64], m: u64) -> u64 {
 }
 
 // The mismatches of the breakpoints of a path.
-fn breakpoint_faults(sizes: &[u64], losses: &[u64], m: u64) -> u64 {
+fn breakpoint_faults(sizes: &[u64], losses: &[u64], weights: &[u64], m: u64) -> u64 {
     let mut numerators = [MARK; 12];
     let mut denominators = [MARK; 12];
     let listed = select::breakpoints(
         sizes,
         losses,
+        weights,
         m as usize,
         &mut numerators,
         &mut denominators,
@@ -118,7 +161,7 @@ fn breakpoint_faults(sizes: &[u64], losses: &[u64], m: u64) -> u64 {
         fault(listed.refusal == 0 && plus(listed.count as u64, 1) == m),
         plus(
             gap_faults(&numerators, losses, m),
-            gap_faults(&denominators, sizes, m),
+            gap_faults(&denominators, weights, m),
         ),
     )
 }
@@ -127,104 +170,132 @@ fn breakpoint_faults(sizes: &[u64], losses: &[u64], m: u64) -> u64 {
 fn selection_faults(
     sizes: &[u64],
     losses: &[u64],
+    weights: &[u64],
     path_sizes: &[u64],
     path_losses: &[u64],
+    path_weights: &[u64],
     entries: usize,
     p: u64,
     q: u64,
 ) -> u64 {
-    let model = select::select(path_sizes, path_losses, entries, p, q);
-    let best = cheapest(sizes, losses, sizes.len(), p, q);
+    let model = select::select(path_sizes, path_losses, path_weights, entries, p, q);
+    let best = cheapest(sizes, losses, weights, sizes.len(), p, q);
     let place = plus(
         differs(model.refusal, 0),
         differs(model.size, at(path_sizes, model.index)),
     );
+    let values = plus(
+        differs(model.size, at(sizes, best)),
+        differs(model.loss, at(losses, best)),
+    );
     plus(
-        place,
-        plus(
-            differs(model.size, at(sizes, best)),
-            differs(model.loss, at(losses, best)),
-        ),
+        plus(place, values),
+        differs(model.weight, at(weights, best)),
     )
 }
 
 // The mismatches at the penalty at which two models cost the same, and at its two neighbours; none if the first is not the
-// smaller one.
+// lighter one.
 fn pair_faults(
     sizes: &[u64],
     losses: &[u64],
+    weights: &[u64],
     path_sizes: &[u64],
     path_losses: &[u64],
+    path_weights: &[u64],
     entries: usize,
     i: usize,
     j: usize,
 ) -> u64 {
-    if sizes.len() <= j || at(sizes, j) <= at(sizes, i) {
+    if sizes.len() <= j || at(weights, j) <= at(weights, i) {
         return 0;
     }
     let p = minus(at(losses, i), at(losses, j));
-    let q = minus(at(sizes, j), at(sizes, i));
-    let here = selection_faults(sizes, losses, path_sizes, path_losses, entries, p, q);
-    let above = selection_faults(
-        sizes,
-        losses,
-        path_sizes,
-        path_losses,
-        entries,
-        plus(p, 1),
-        q,
-    );
-    let below = selection_faults(
-        sizes,
-        losses,
-        path_sizes,
-        path_losses,
-        entries,
-        minus(p, 1),
-        q,
-    );
-    plus(here, plus(above, below))
+    let q = minus(at(weights, j), at(weights, i));
+    let mut faults = 0;
+    for k in 0..3u64 {
+        let above = minus(plus(p, k), 1);
+        let more = selection_faults(
+            sizes,
+            losses,
+            weights,
+            path_sizes,
+            path_losses,
+            path_weights,
+            entries,
+            above,
+            q,
+        );
+        faults = plus(faults, more);
+    }
+    faults
 }
 
 // The mismatches at the penalties of every two models: the numbers k / 12 and k % 12 run through them.
 fn penalty_faults(
     sizes: &[u64],
     losses: &[u64],
+    weights: &[u64],
     path_sizes: &[u64],
     path_losses: &[u64],
+    path_weights: &[u64],
     entries: usize,
 ) -> u64 {
     let mut faults = 0;
     for k in 0..144usize {
-        faults = plus(
-            faults,
-            pair_faults(
-                sizes,
-                losses,
-                path_sizes,
-                path_losses,
-                entries,
-                k / 12,
-                k % 12,
-            ),
+        let more = pair_faults(
+            sizes,
+            losses,
+            weights,
+            path_sizes,
+            path_losses,
+            path_weights,
+            entries,
+            k / 12,
+            k % 12,
         );
+        faults = plus(faults, more);
     }
     faults
 }
 
 // All comparisons for a list.
-fn check_list(sizes: &[u64], losses: &[u64]) -> Totals {
+fn check_list(sizes: &[u64], losses: &[u64], weights: &[u64]) -> Totals {
     let n = sizes.len() as u64;
     let mut path_sizes = [MARK; 12];
     let mut path_losses = [MARK; 12];
-    let answer = answer_of(build::build(sizes, losses, &mut path_sizes, &mut path_losses));
+    let mut path_weights = [MARK; 12];
+    let answer = answer_of(build::build(
+        sizes,
+        losses,
+        weights,
+        &mut path_sizes,
+        &mut path_losses,
+        &mut path_weights,
+    ));
     let made = history::after(history::empty(), answer, n);
-    let entries = made.entries as usize;
-    let building = history::faults(sizes, losses, sizes.len(), &path_sizes, &path_losses, made);
-    let selecting = penalty_faults(sizes, losses, &path_sizes, &path_losses, entries);
-    let listing = breakpoint_faults(&path_sizes, &path_losses, made.entries);
-    let appending = append_faults(sizes, losses);
-    let older = quadratic_faults(sizes, losses);
+    let building = history::faults(
+        sizes,
+        losses,
+        weights,
+        sizes.len(),
+        &path_sizes,
+        &path_losses,
+        &path_weights,
+        made,
+    );
+    let selecting = penalty_faults(
+        sizes,
+        losses,
+        weights,
+        &path_sizes,
+        &path_losses,
+        &path_weights,
+        made.entries as usize,
+    );
+    let listing = breakpoint_faults(&path_sizes, &path_losses, &path_weights, made.entries);
+    let appending = append_faults(sizes, losses, weights);
+    let older = quadratic_faults(sizes, losses, weights);
     Totals {
         faults: plus(
             plus(building, older),
@@ -237,20 +308,38 @@ fn check_list(sizes: &[u64], losses: &[u64]) -> Totals {
     }
 }
 
-// The same for models with the sizes of those passed over raised.
-fn check_lifted(kind: u64, x: u64, sizes: &mut [u64], losses: &[u64]) -> Totals {
+// The same for models with the sizes and the weights of those passed over raised. Weights are of a kind of their own.
+fn check_lifted(
+    kind: u64,
+    other: u64,
+    x: u64,
+    sizes: &mut [u64],
+    losses: &[u64],
+    weights: &mut [u64],
+) -> Totals {
     models::lift_all(kind, x, sizes, losses);
-    check_list(sizes, losses)
+    models::lift_all(other, next(x), weights, losses);
+    check_list(sizes, losses, weights)
 }
 
-// The list i: 1 to 12 models of a kind.
+// The list i: 1 to 12 models of a kind, with weights of another.
 fn check_random(i: u64) -> Totals {
     let kind = i % models::KINDS;
+    let other = i / models::KINDS % models::KINDS;
     let x = start(1, i);
-    let mut sizes = models::sizes(kind, x);
-    let losses = models::losses(kind, next(x), &sizes, x % 3);
+    let y = next(x);
+    let mut sizes = models::rising(kind, x);
+    let mut weights = models::rising(other, next(y));
+    let losses = models::losses(kind, y, &weights, x % 3);
     let from = (x % 12) as usize + 12;
-    check_lifted(kind, x, &mut sizes[from..24], &losses[from..24])
+    check_lifted(
+        kind,
+        other,
+        x,
+        &mut sizes[from..24],
+        &losses[from..24],
+        &mut weights[from..24],
+    )
 }
 
 fn sum(a: Totals, b: Totals) -> Totals {

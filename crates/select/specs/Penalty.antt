@@ -3,7 +3,7 @@
 use mathlib.Core.Bool.{Bool, _&&_}
 use Prim.Native.Nat.{ℕ, _+_, _*_}
 use lib.Dec.{leb}
-use Rattle.path.specs.Model.{Model, weight}
+use Rattle.path.specs.Model.{Model}
 
 -- The largest numerator is 2^44.
 abbrev pub maxNumerator : ℕ
@@ -17,6 +17,6 @@ maxDenominator = 65535
 abbrev pub validPenalty : ℕ → ℕ → Bool
 validPenalty p q = leb p maxNumerator && leb 1 q && leb q maxDenominator
 
--- What a model costs at the penalty p / q, times q.
+-- What a model costs at the penalty p / q, times q: what (4) minimizes, with the weight as the regularizer's value (section 2.2).
 abbrev pub cost : ℕ → ℕ → Model → ℕ
-cost p q m = q * m .loss + p * weight m
+cost p q m = q * m .loss + p * m .weight

@@ -11,32 +11,38 @@ use testing::sample::START_MARK;
 use testing::sample::levels_of;
 use testing::sample::starts_of;
 
-// What a call is given beside the samples: the limit, the least length of a segment, the penalty p / q, and the number of places of each
-// buffer.
+// What a call is given beside the samples: the limit, the least length of a segment, the weights and how many of them are lent, the
+// penalty p / q, and the number of places of each buffer.
 pub struct Arguments {
     pub limit: u64,
     pub min_segment_len: u64,
+    pub weights: [u64; 40],
+    pub lent: usize,
     pub p: u64,
     pub q: u64,
     pub starts: usize,
     pub levels: usize,
     pub sizes: usize,
     pub losses: usize,
+    pub path_weights: usize,
     pub scratch: usize,
 }
 
 impl Arguments {
-    // A limit and a penalty, with the least length 1 and all places of each buffer.
+    // A limit and a penalty, with the least length 1, no weights and all places of each buffer.
     pub fn of(limit: u64, p: u64, q: u64) -> Self {
         Arguments {
             limit: limit,
             min_segment_len: 1,
+            weights: [MARK; 40],
+            lent: 0,
             p: p,
             q: q,
             starts: 40,
             levels: 40,
             sizes: 40,
             losses: 40,
+            path_weights: 40,
             scratch: SCRATCH,
         }
     }
@@ -46,13 +52,27 @@ impl Arguments {
         self.min_segment_len = min_segment_len;
         self
     }
+
+    // The same with the first of some weights.
+    pub fn with_weights(mut self, weights: [u64; 40], lent: usize) -> Self {
+        self.weights = weights;
+        self.lent = lent;
+        self
+    }
+
+    // The same at another penalty.
+    pub fn with_penalty(mut self, p: u64, q: u64) -> Self {
+        self.p = p;
+        self.q = q;
+        self
+    }
 }
 
-// Whether the buffers have so many places.
+// Whether the weights are so many and the buffers have so many places.
 fn fits(given: Arguments) -> bool {
     let segments = given.starts <= 40 && given.levels <= 40;
-    let path = given.sizes <= 40 && given.losses <= 40;
-    segments && path && given.scratch <= SCRATCH
+    let path = given.sizes <= 40 && given.losses <= 40 && given.path_weights <= 40;
+    segments && path && given.lent <= 40 && given.scratch <= SCRATCH
 }
 
 // The number of bytes that are not a value, which is too small to wrap.
@@ -66,28 +86,33 @@ fn others(bytes: &[u8; SCRATCH], value: u8) -> u64 {
     n
 }
 
-// Splits a signal.
-fn split_all(samples: &[i16], given: Arguments) -> Outcome {
+// Splits a signal, with the first weights.
+fn split_all(samples: &[i16], weights: &[u64], given: Arguments) -> Outcome {
     let mut starts = [START_MARK; 40];
     let mut levels = [LEVEL_MARK; 40];
     let mut sizes = [MARK; 40];
     let mut losses = [MARK; 40];
+    let mut path_weights = [MARK; 40];
     let mut scratch = [7u8; SCRATCH];
+    let lent = within(given.lent, weights.len());
     let starts_room = within(given.starts, 40);
     let levels_room = within(given.levels, 40);
     let sizes_room = within(given.sizes, 40);
     let losses_room = within(given.losses, 40);
+    let weights_room = within(given.path_weights, 40);
     let scratch_room = within(given.scratch, SCRATCH);
     let made = signal::split(
         samples,
         given.limit,
         given.min_segment_len,
+        &weights[0..lent],
         given.p,
         given.q,
         &mut starts[0..starts_room],
         &mut levels[0..levels_room],
         &mut sizes[0..sizes_room],
         &mut losses[0..losses_room],
+        &mut path_weights[0..weights_room],
         &mut scratch[0..scratch_room],
     );
     Outcome {
@@ -101,6 +126,7 @@ fn split_all(samples: &[i16], given: Arguments) -> Outcome {
         levels: levels_of(&levels),
         sizes: sizes,
         losses: losses,
+        weights: path_weights,
     }
 }
 
@@ -112,23 +138,29 @@ pub fn split(samples: &[i16], count: usize, given: Arguments) -> Outcome {
     if !fits(given) {
         return no_call();
     }
-    split_all(&samples[0..count], given)
+    let weights = given.weights;
+    split_all(&samples[0..count], &weights, given)
 }
 
-// Calls for the path of a signal. It is lent no starts and no levels.
-fn path_of_all(samples: &[i16], given: Arguments) -> Outcome {
+// Calls for the path of a signal, with the first weights. It is lent no starts and no levels.
+fn path_of_all(samples: &[i16], weights: &[u64], given: Arguments) -> Outcome {
     let mut sizes = [MARK; 40];
     let mut losses = [MARK; 40];
+    let mut path_weights = [MARK; 40];
     let mut scratch = [7u8; SCRATCH];
+    let lent = within(given.lent, weights.len());
     let sizes_room = within(given.sizes, 40);
     let losses_room = within(given.losses, 40);
+    let weights_room = within(given.path_weights, 40);
     let scratch_room = within(given.scratch, SCRATCH);
     let made = signal::signal_path(
         samples,
         given.limit,
         given.min_segment_len,
+        &weights[0..lent],
         &mut sizes[0..sizes_room],
         &mut losses[0..losses_room],
+        &mut path_weights[0..weights_room],
         &mut scratch[0..scratch_room],
     );
     Outcome {
@@ -142,6 +174,7 @@ fn path_of_all(samples: &[i16], given: Arguments) -> Outcome {
         levels: [MARK; 40],
         sizes: sizes,
         losses: losses,
+        weights: path_weights,
     }
 }
 
@@ -153,5 +186,6 @@ pub fn signal_path(samples: &[i16], count: usize, given: Arguments) -> Outcome {
     if !fits(given) {
         return no_call();
     }
-    path_of_all(&samples[0..count], given)
+    let weights = given.weights;
+    path_of_all(&samples[0..count], &weights, given)
 }

@@ -7,7 +7,7 @@ use crate::number::differs;
 use crate::number::minus;
 use crate::number::plus;
 
-// What the buffers of a test hold before a call, which is no size and no loss.
+// What the buffers of a test hold before a call, which is no size, no loss and no weight.
 pub const MARK: u64 = 99999999999999;
 
 // The value at index i, and NONE past the end.

@@ -68,16 +68,27 @@ pub fn sizes() -> [u64; 32] {
     sizes
 }
 
-// Writes the path where so many sizes occur, with these losses, and zeros after it as far as there are sizes. Returns its number of
-// entries.
+// Writes the path where so many sizes occur, with these losses and weights, and zeros after it as far as there are sizes. Returns its
+// number of entries.
 pub fn put_size_path(
     losses: &[u64],
+    weights: &[u64],
     most: usize,
     path_sizes: &mut [u64],
     path_losses: &mut [u64],
+    path_weights: &mut [u64],
 ) -> u64 {
     let all = sizes();
     fill(path_sizes, most, 0);
     fill(path_losses, most, 0);
-    put_path(&all, losses, most, path_sizes, path_losses)
+    fill(path_weights, most, 0);
+    put_path(
+        &all,
+        losses,
+        weights,
+        most,
+        path_sizes,
+        path_losses,
+        path_weights,
+    )
 }

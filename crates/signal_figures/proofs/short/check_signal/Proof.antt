@@ -8,8 +8,8 @@ pub check-signal-spec : {M : Type 1} → statement M
 check-signal-spec =
     tie.close
     (tie.spec
-    (λ samples raised count totals₀ shorter₀ totals shorter. Unit)
-    (λ samples raised count totals₀ shorter₀ totals shorter. count - shorter)
+    (λ samples raised count seed totals₀ shorter₀ totals shorter. Unit)
+    (λ samples raised count seed totals₀ shorter₀ totals shorter. count - shorter)
     (λ c. search needs)
     (λ c. search needs)
     (λ c κs. search needs)

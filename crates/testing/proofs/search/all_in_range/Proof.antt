@@ -8,9 +8,10 @@ pub all-in-range-spec : {M : Type 1} → statement M
 all-in-range-spec =
     tie.close
     (tie.spec
-    (λ sizes losses n i₀ i. Unit)
-    (λ sizes losses n i₀ i. n - i)
+    (λ sizes losses weights n i₀ i. Unit)
+    (λ sizes losses weights n i₀ i. n - i)
     (λ c. search needs)
+    (λ c κs. search needs)
     (λ c κs. search needs)
     (λ c κs. search needs)
     (λ c κs. search needs)

@@ -8,8 +8,8 @@ pub cheapest-spec : {M : Type 1} → statement M
 cheapest-spec =
     tie.close
     (tie.spec
-    (λ sizes losses n p q best₀ i₀ best i. Unit)
-    (λ sizes losses n p q best₀ i₀ best i. n - i)
+    (λ sizes losses weights n p q best₀ i₀ best i. Unit)
+    (λ sizes losses weights n p q best₀ i₀ best i. n - i)
     (λ c. search needs)
     (λ c κs. search needs)
     (λ c. search needs)

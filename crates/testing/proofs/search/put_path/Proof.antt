@@ -10,12 +10,13 @@ pub put-path-spec : {M : Type 1} → statement M
 put-path-spec =
     tie.close
     (tie.spec
-    (λ sizes losses n path-sizes₀ path-losses₀ entries₀ i₀ path-sizes path-losses entries i. (length path-sizes ≡ length path-sizes₀) × (length path-losses ≡ length path-losses₀))
-    (λ sizes losses n path-sizes₀ path-losses₀ entries₀ i₀ path-sizes path-losses entries i. n - i)
+    (λ sizes losses weights n path-sizes₀ path-losses₀ path-weights₀ entries₀ i₀ path-sizes path-losses path-weights entries i. (length path-sizes ≡ length path-sizes₀) × ((length path-losses ≡ length path-losses₀) × (length path-weights ≡ length path-weights₀)))
+    (λ sizes losses weights n path-sizes₀ path-losses₀ path-weights₀ entries₀ i₀ path-sizes path-losses path-weights entries i. n - i)
     (λ c κs. search needs)
     (λ c. search needs)
     (λ c. search needs)
     (λ c κs. search needs)
+    (λ c. search needs)
     (λ c. search needs)
     (λ c. search needs)
     (λ c. search needs)

@@ -8,8 +8,8 @@ pub wins-spec : {M : Type 1} → statement M
 wins-spec =
     tie.close
     (tie.spec
-    (λ sizes losses n i h₀ h. Unit)
-    (λ sizes losses n i h₀ h. n - h)
+    (λ losses weights n i h₀ h. Unit)
+    (λ losses weights n i h₀ h. n - h)
     (λ c. search needs)
     (λ c κs. search needs)
     (λ c. search needs)

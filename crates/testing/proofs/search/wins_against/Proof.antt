@@ -8,8 +8,8 @@ pub wins-against-spec : {M : Type 1} → statement M
 wins-against-spec =
     tie.close
     (tie.spec
-    (λ sizes losses n h i j₀ j. Unit)
-    (λ sizes losses n h i j₀ j. n - j)
+    (λ losses weights n h i j₀ j. Unit)
+    (λ losses weights n h i j₀ j. n - j)
     (λ c. search needs)
     (λ c κs. search needs)
     (λ c. search needs)

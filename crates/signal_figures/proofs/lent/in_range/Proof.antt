@@ -1,0 +1,20 @@
+-- `signal_figures::lent::in_range` is safe and ends. The loop counts its index up to the end of the range.
+use Prim.Native.Nat.{_-_}
+use borrow.Author.Needs.{needs}
+use Rattle.signal_figures.proofs.lent.in_range.Statement.{statement}
+use Rattle.signal_figures.proofs.lent.in_range.Tie as tie
+
+pub in-range-spec : {M : Type 1} → statement M
+in-range-spec =
+    tie.close
+    (tie.spec
+    (λ weights n i₀ i. Unit)
+    (λ weights n i₀ i. n - i)
+    (λ c. search needs)
+    (λ c κs. search needs)
+    (λ c κs. search needs)
+    (λ c. search needs)
+    (λ c. search needs)
+    (λ c. search needs)
+    (λ c. search needs)
+    (λ c. search needs))
