@@ -1,6 +1,6 @@
 -- `byte_signals::split` meets its contract: refused under 11, or the call by lists of as many items as are looked at.
-use mathlib.Core.Path.{refl, sym}
-use Prim.Native.Nat.{ℕ}
+use mathlib.Core.Path.{_≡_, refl, sym}
+use Prim.Native.Nat.{ℕ, _+_}
 use native.Mathlib.Omega.{arith}
 use lib.IntN.{ℤ, pos}
 use Rattle.least.specs.Segmentation.{maxSegments}
@@ -13,6 +13,10 @@ use Rattle.byte_signals.specs.Inner.{readSamples, readWeights}
 use borrow.Author.Needs.{needs}
 use Rattle.byte_signals.proofs.split.Statement.{statement}
 use Rattle.byte_signals.proofs.split.Tie as tie
+
+-- The seven remainders that the code adds up, as those of what is read and those of the buffers.
+none-over : (a b c d e f g : ℕ) → a + b + c + d + e + f + g ≡ 0 → a + b + (c + (d + (e + (f + g) + 0))) ≡ 0
+none-over a b c d e f g h = omega arith
 
 returns : tie.Need-returns
 returns c =
@@ -79,7 +83,7 @@ split-items-requires c κs =
     let a = start .args in
     let strings = lists (a .path-sizes .now) (a .path-losses .now) (a .path-weights .now) in
     record {
-      whole = omega (arith, at-else1 .if1 .left);
+      whole = none-over _ _ _ _ _ _ _ (at-else1 .if1 .left);
       input = record {
         samples-fit = front-fits {A = ℤ} (pos 0) readSamples _ _ (at-smaller .smaller .ensures) refl (omega arith);
         weights-fit = front-fits {A = ℕ} 0 readWeights _ _ (at-smaller2 .smaller2 .ensures) refl (omega arith);
