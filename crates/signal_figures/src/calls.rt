@@ -17,7 +17,7 @@ pub struct Arguments {
     pub limit: u64,
     pub min_segment_len: u64,
     pub weights: [u64; 40],
-    pub lent: usize,
+    pub weight_count: usize,
     pub p: u64,
     pub q: u64,
     pub starts: usize,
@@ -35,7 +35,7 @@ impl Arguments {
             limit: limit,
             min_segment_len: 1,
             weights: [MARK; 40],
-            lent: 0,
+            weight_count: 0,
             p: p,
             q: q,
             starts: 40,
@@ -54,9 +54,9 @@ impl Arguments {
     }
 
     // The same with the first of some weights.
-    pub fn with_weights(mut self, weights: [u64; 40], lent: usize) -> Self {
+    pub fn with_weights(mut self, weights: [u64; 40], weight_count: usize) -> Self {
         self.weights = weights;
-        self.lent = lent;
+        self.weight_count = weight_count;
         self
     }
 
@@ -72,7 +72,7 @@ impl Arguments {
 fn fits(given: Arguments) -> bool {
     let segments = given.starts <= 40 && given.levels <= 40;
     let path = given.sizes <= 40 && given.losses <= 40 && given.path_weights <= 40;
-    segments && path && given.lent <= 40 && given.scratch <= SCRATCH
+    segments && path && given.weight_count <= 40 && given.scratch <= SCRATCH
 }
 
 // The number of bytes that are not a value, which is too small to wrap.
@@ -94,7 +94,7 @@ fn split_all(samples: &[i16], weights: &[u64], given: Arguments) -> Outcome {
     let mut losses = [MARK; 40];
     let mut path_weights = [MARK; 40];
     let mut scratch = [7u8; SCRATCH];
-    let lent = within(given.lent, weights.len());
+    let weight_count = within(given.weight_count, weights.len());
     let starts_room = within(given.starts, 40);
     let levels_room = within(given.levels, 40);
     let sizes_room = within(given.sizes, 40);
@@ -105,7 +105,7 @@ fn split_all(samples: &[i16], weights: &[u64], given: Arguments) -> Outcome {
         samples,
         given.limit,
         given.min_segment_len,
-        &weights[0..lent],
+        &weights[0..weight_count],
         given.p,
         given.q,
         &mut starts[0..starts_room],
@@ -148,7 +148,7 @@ fn path_of_all(samples: &[i16], weights: &[u64], given: Arguments) -> Outcome {
     let mut losses = [MARK; 40];
     let mut path_weights = [MARK; 40];
     let mut scratch = [7u8; SCRATCH];
-    let lent = within(given.lent, weights.len());
+    let weight_count = within(given.weight_count, weights.len());
     let sizes_room = within(given.sizes, 40);
     let losses_room = within(given.losses, 40);
     let weights_room = within(given.path_weights, 40);
@@ -157,7 +157,7 @@ fn path_of_all(samples: &[i16], weights: &[u64], given: Arguments) -> Outcome {
         samples,
         given.limit,
         given.min_segment_len,
-        &weights[0..lent],
+        &weights[0..weight_count],
         &mut sizes[0..sizes_room],
         &mut losses[0..losses_room],
         &mut path_weights[0..weights_room],

@@ -38,7 +38,7 @@ fn draw(kind: u64, seed: u64) -> [u64; 40] {
 }
 
 // What a call is given with weights of a random kind, as many as its limit. One kind is none.
-pub fn lend(given: Arguments, x: u64) -> Arguments {
+pub fn weigh(given: Arguments, x: u64) -> Arguments {
     let kind = x % KINDS;
     if kind == 0 {
         return given;
@@ -49,7 +49,7 @@ pub fn lend(given: Arguments, x: u64) -> Arguments {
 // The weight of each size.
 pub fn right(given: Arguments) -> [u64; 40] {
     let mut weights = given.weights;
-    if given.lent == 0 {
+    if given.weight_count == 0 {
         count_up(&mut weights);
     }
     weights
@@ -74,8 +74,8 @@ pub fn damage(given: Arguments, x: u64) -> Arguments {
     let mut weights = given.weights;
     let value = damaged(last(&weights, i, 0), at(&weights, i), x);
     put(&mut weights, i, value);
-    let lent = minus(plus(given.lent as u64, y / 64 % 3), 1);
-    given.with_weights(weights, lent as usize)
+    let weight_count = minus(plus(given.weight_count as u64, y / 64 % 3), 1);
+    given.with_weights(weights, weight_count as usize)
 }
 
 // Whether the first n weights are in range.
@@ -101,13 +101,13 @@ fn rising(weights: &[u64], n: usize) -> bool {
 // The refusal that is due to the weights of a call: 5, 14 or 0.
 pub fn refusal(given: Arguments) -> u64 {
     let weights = given.weights;
-    if !in_range(&weights, given.lent) {
+    if !in_range(&weights, given.weight_count) {
         return 5;
     }
-    if given.lent == 0 {
+    if given.weight_count == 0 {
         return 0;
     }
-    if given.lent as u64 != given.limit || !rising(&weights, given.lent) {
+    if given.weight_count as u64 != given.limit || !rising(&weights, given.weight_count) {
         14
     } else {
         0
