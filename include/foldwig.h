@@ -77,16 +77,16 @@ extern "C" {
 #define FOLDWIG_TABLE_LEN 65536
 
 /* The most stack that each call takes, in bytes, as measured by c/stack.c and rounded up. */
-#define FOLDWIG_APPEND_STACK 99000
-#define FOLDWIG_BUILD_STACK 198000
-#define FOLDWIG_BUILD_QUADRATIC_STACK 198000
-#define FOLDWIG_SELECT_STACK 99000
-#define FOLDWIG_BREAKPOINTS_STACK 165000
-#define FOLDWIG_APPEND_ENTRIES_STACK 99000
-#define FOLDWIG_BUILD_ENTRIES_STACK 198000
-#define FOLDWIG_BUILD_QUADRATIC_ENTRIES_STACK 198000
-#define FOLDWIG_SELECT_ENTRIES_STACK 99000
-#define FOLDWIG_BREAKPOINTS_ENTRIES_STACK 99000
+#define FOLDWIG_APPEND_STACK 600
+#define FOLDWIG_BUILD_STACK 99000
+#define FOLDWIG_BUILD_QUADRATIC_STACK 99000
+#define FOLDWIG_SELECT_STACK 600
+#define FOLDWIG_BREAKPOINTS_STACK 600
+#define FOLDWIG_APPEND_ENTRIES_STACK 600
+#define FOLDWIG_BUILD_ENTRIES_STACK 99000
+#define FOLDWIG_BUILD_QUADRATIC_ENTRIES_STACK 99000
+#define FOLDWIG_SELECT_ENTRIES_STACK 600
+#define FOLDWIG_BREAKPOINTS_ENTRIES_STACK 600
 #define FOLDWIG_SIGNAL_PATH_STACK 26000
 #define FOLDWIG_SPLIT_STACK 26000
 #define FOLDWIG_EXTEND_STACK 7000
@@ -197,7 +197,7 @@ struct foldwig_split_from_result {
  * larger weight than the last entry's and the same loss is passed over: it is accepted with 0 tests, even if there is no place
  * left, no byte changes, and its size and its weight are forgotten.
  * Refusals, in order: 11, 8, 5, 6, 14, 7, 9. The buffers need places for the path as it is afterwards, without dropped entries.
- * Stack: 99,000 bytes.
+ * Stack: 600 bytes.
  */
 struct foldwig_path_result foldwig_append(uint8_t *sizes, size_t sizes_len, uint8_t *losses, size_t losses_len, uint8_t *weights,
                                           size_t weights_len, uint64_t entries, uint64_t size, uint64_t loss, uint64_t weight);
@@ -210,7 +210,7 @@ struct foldwig_path_result foldwig_append(uint8_t *sizes, size_t sizes_len, uint
  * passed over: it gets no test, and the path goes on without it.
  * Refusals, in order: 11, 1, 2, then at the first bad model 5, 6, 14 or 7, then 9. The buffers need a place for each model, passed
  * over or not.
- * Stack: 198,000 bytes.
+ * Stack: 99,000 bytes.
  */
 struct foldwig_path_result foldwig_build(const uint8_t *sizes, size_t sizes_len, const uint8_t *losses, size_t losses_len,
                                          const uint8_t *weights, size_t weights_len, uint8_t *path_sizes, size_t path_sizes_len,
@@ -226,7 +226,7 @@ struct foldwig_path_result foldwig_build(const uint8_t *sizes, size_t sizes_len,
  * with the number of models.
  * Refusals, in order: 11, 1, 2, then at the first bad model 5, 6, 14 or 7, then 9. The buffers need a place for each model, passed
  * over or not.
- * Stack: 198,000 bytes.
+ * Stack: 99,000 bytes.
  */
 struct foldwig_path_result foldwig_build_quadratic(const uint8_t *sizes, size_t sizes_len, const uint8_t *losses,
                                                    size_t losses_len, const uint8_t *weights, size_t weights_len,
@@ -238,7 +238,7 @@ struct foldwig_path_result foldwig_build_quadratic(const uint8_t *sizes, size_t 
  * one as long as that costs less, where a model costs q * loss + p * weight. On a path that the library made this is the cheapest
  * of all its models, and the one with the smallest size of several. It writes nothing.
  * Refusals, in order: 11, 8, 10, 4.
- * Stack: 99,000 bytes.
+ * Stack: 600 bytes.
  */
 struct foldwig_select_result foldwig_select(const uint8_t *sizes, size_t sizes_len, const uint8_t *losses, size_t losses_len,
                                             const uint8_t *weights, size_t weights_len, uint64_t entries, uint64_t p, uint64_t q);
@@ -248,7 +248,7 @@ struct foldwig_select_result foldwig_select(const uint8_t *sizes, size_t sizes_l
  * not reduced, and stands at the front of numerators and denominators in the order of the entries. All other places stay.
  * A path of one entry or of none has no breakpoint, and the count is then 0.
  * Refusals, in order: 11, 8, 9. The buffers need a place for each breakpoint.
- * Stack: 165,000 bytes.
+ * Stack: 600 bytes.
  */
 struct foldwig_breakpoints_result foldwig_breakpoints(const uint8_t *sizes, size_t sizes_len, const uint8_t *losses,
                                                       size_t losses_len, const uint8_t *weights, size_t weights_len,
@@ -258,7 +258,7 @@ struct foldwig_breakpoints_result foldwig_breakpoints(const uint8_t *sizes, size
 /*
  * Appends a model to the path of n entries at the front of an array, as foldwig_append does.
  * Refusals, in order: 8, 5, 6, 14, 7, 9.
- * Stack: 99,000 bytes.
+ * Stack: 600 bytes.
  */
 struct foldwig_path_result foldwig_append_entries(struct foldwig_entry *entries, size_t entries_len, uint64_t n, uint64_t size,
                                                   uint64_t loss, uint64_t weight);
@@ -266,7 +266,7 @@ struct foldwig_path_result foldwig_append_entries(struct foldwig_entry *entries,
 /*
  * Builds the path of an array of models at the front of an array of entries, as foldwig_build does.
  * Refusals, in order: 1, 2, then at the first bad model 5, 6, 14 or 7, then 9.
- * Stack: 198,000 bytes.
+ * Stack: 99,000 bytes.
  */
 struct foldwig_path_result foldwig_build_entries(const struct foldwig_entry *models, size_t models_len,
                                                  struct foldwig_entry *entries, size_t entries_len);
@@ -276,7 +276,7 @@ struct foldwig_path_result foldwig_build_entries(const struct foldwig_entry *mod
  * (R94 to R96). The tests are 0, and all else is as foldwig_build_entries has it. It is a yardstick as well: its time grows with the
  * number of models times the number of entries.
  * Refusals, in order: 1, 2, then at the first bad model 5, 6, 14 or 7, then 9.
- * Stack: 198,000 bytes.
+ * Stack: 99,000 bytes.
  */
 struct foldwig_path_result foldwig_build_quadratic_entries(const struct foldwig_entry *models, size_t models_len,
                                                            struct foldwig_entry *entries, size_t entries_len);
@@ -284,7 +284,7 @@ struct foldwig_path_result foldwig_build_quadratic_entries(const struct foldwig_
 /*
  * Selects an entry of the path of n entries at the front of an array at the penalty p / q, as foldwig_select does.
  * Refusals, in order: 8, 10, 4.
- * Stack: 99,000 bytes.
+ * Stack: 600 bytes.
  */
 struct foldwig_select_result foldwig_select_entries(const struct foldwig_entry *entries, size_t entries_len, uint64_t n,
                                                     uint64_t p, uint64_t q);
@@ -292,7 +292,7 @@ struct foldwig_select_result foldwig_select_entries(const struct foldwig_entry *
 /*
  * Lists the breakpoints of the path of n entries at the front of an array, as foldwig_breakpoints does.
  * Refusals, in order: 8, 9.
- * Stack: 99,000 bytes.
+ * Stack: 600 bytes.
  */
 struct foldwig_breakpoints_result foldwig_breakpoints_entries(const struct foldwig_entry *entries, size_t entries_len, uint64_t n,
                                                               uint64_t *numerators, size_t numerators_len,

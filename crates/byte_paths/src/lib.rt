@@ -1,28 +1,33 @@
-// The calls on a path over byte strings. A call on a lent path looks at no more items than the entries ask for, so that long buffers
-// cost nothing.
+// The calls on a path over byte strings. An append, a selection and a listing of breakpoints read and write the bytes where they lie. A
+// build reads the models to lists of its own.
 
 ghost use mathlib.Core.Path.{_≡_};
+ghost use Prim.Native.Nat.{_+_};
 ghost use lib.ListN.{length};
 ghost use Rattle.coding.specs.Coding.{outcome};
+ghost use Rattle.coding.specs.Models.{modelsCoding};
 ghost use Rattle.path.specs.Model.{model, lists};
-ghost use Rattle.byte_paths.specs.Paths.{appendBytesOf, buildBytesBy, selectBytesOf, fractions, breakpointsBytesOf};
-ghost use Rattle.byte_paths.specs.Inner.{appendRead, entriesRead, PathFits, BuildFits, BreakpointsFit};
-use build::larger;
-use coding::encode_items;
+ghost use Rattle.byte_paths.specs.Paths.{appendBytesOf, buildBytesBy, selectBytesOf, fractions, fractionsCoding, breakpointsBytesOf};
+ghost use Rattle.byte_paths.specs.Inner.{BuildFits, appendEncoded, breakpointsEncoded};
+ghost use Rattle.select.specs.Select.{selectRefused};
+
+pub mod entries;
+
 use coding::encode_models;
 use coding::read_models;
-use layout::read_items;
+use coding::store_item;
 use least::smaller;
 use path::MAX_MODELS;
 use path::PathResult;
+use path::tally;
 use select::BreakpointsResult;
 use select::SelectResult;
 
 // The most models of a build that are read: one more than there may be, so that too many stay too many.
 const MODELS_READ: usize = MAX_MODELS + 1;
 
-// An append by lists with as many places as there are items to look at.
-fn append_items(
+// An append where no byte is left over.
+fn append_whole(
     sizes: &mut [u8],
     losses: &mut [u8],
     weights: &mut [u8],
@@ -30,35 +35,37 @@ fn append_items(
     size: u64,
     loss: u64,
     weight: u64,
-    size_items: &mut [u64],
-    loss_items: &mut [u64],
-    weight_items: &mut [u64],
 ) -> PathResult
-    requires { ⌜ PathFits (appendRead entries) (lists (now sizes) (now losses) (now weights))
-        (length (now «size_items»)) (length (now «loss_items»)) (length (now «weight_items»)) ⌝ }
+    requires { ⌜ modelsCoding .spare (lists (now sizes) (now losses) (now weights)) ≡ 0 ⌝ }
     ensures { λ r. ⌜ outcome r (lists (now (sizes .exit)) (now (losses .exit)) (now (weights .exit)))
-        ≡ appendBytesOf (lists (now (sizes .entry)) (now (losses .entry)) (now (weights .entry))) entries (model size loss weight) ⌝ }
+        ≡ appendEncoded (lists (now (sizes .entry)) (now (losses .entry)) (now (weights .entry))) entries (model size loss weight) ⌝ }
 {
-    read_models(sizes, losses, weights, size_items, loss_items, weight_items);
-    let made = path::append(
-        size_items,
-        loss_items,
-        weight_items,
-        entries,
-        size,
-        loss,
-        weight,
-    );
-    encode_models(
-        made.refusal,
-        sizes,
-        losses,
-        weights,
-        size_items,
-        loss_items,
-        weight_items,
-    );
-    made
+    let refusal = entries::input_refusal(sizes, losses, weights, entries, size, loss, weight);
+    if refusal != 0 {
+        return path::refuse(refusal);
+    }
+    if entries::passed_over(losses, entries, loss) {
+        return PathResult {
+            refusal: refusal,
+            entries: entries,
+            tests: tally::none(),
+        };
+    }
+    let found = entries::try_model(losses, weights, entries, loss, weight, tally::none());
+    let kept = found.entries;
+    let count = kept + 1;
+    if !path::path_has_room(count, sizes.len() / 2, losses.len() / 8, weights.len() / 2) {
+        return path::refuse(9);
+    }
+    store_item(sizes, 2, kept, entries, size);
+    store_item(losses, 8, kept, entries, loss);
+    store_item(weights, 2, kept, entries, weight);
+    let tests = found.tests;
+    PathResult {
+        refusal: 0,
+        entries: count,
+        tests: tests,
+    }
 }
 
 // Appends a model to the path of so many entries. The path then fills the front of the three byte strings.
@@ -77,28 +84,10 @@ pub fn append(
     if sizes.len() % 2 + losses.len() % 8 + weights.len() % 2 != 0 {
         return path::refuse(11);
     }
-    let mut size_items = [0u64; MAX_MODELS];
-    let mut loss_items = [0u64; MAX_MODELS];
-    let mut weight_items = [0u64; MAX_MODELS];
-    let most = smaller(entries, MAX_MODELS - 1) + 1;
-    let s = smaller(sizes.len() / 2, most);
-    let l = smaller(losses.len() / 8, most);
-    let w = smaller(weights.len() / 2, most);
-    append_items(
-        sizes,
-        losses,
-        weights,
-        entries,
-        size,
-        loss,
-        weight,
-        &mut size_items[..s],
-        &mut loss_items[..l],
-        &mut weight_items[..w],
-    )
+    append_whole(sizes, losses, weights, entries, size, loss, weight)
 }
 
-// A build by lists with as many places as there are items to look at, by the older method where `older` says so.
+// A build in three lists with as many places as there are models to read, by the older method where `older` says so.
 fn build_items(
     older: bool,
     sizes: &[u8],
@@ -110,46 +99,37 @@ fn build_items(
     size_items: &mut [u64],
     loss_items: &mut [u64],
     weight_items: &mut [u64],
-    path_size_items: &mut [u64],
-    path_loss_items: &mut [u64],
-    path_weight_items: &mut [u64],
 ) -> PathResult
     requires { ⌜ BuildFits
         (lists (now sizes) (now losses) (now weights))
         (lists (now «path_sizes») (now «path_losses») (now «path_weights»))
-        (length (now «size_items»)) (length (now «loss_items»)) (length (now «weight_items»))
-        (length (now «path_size_items»)) (length (now «path_loss_items»)) (length (now «path_weight_items»)) ⌝ }
+        (length (now «size_items»)) (length (now «loss_items»)) (length (now «weight_items»)) ⌝ }
     ensures { λ r. ⌜ outcome r (lists (now («path_sizes» .exit)) (now («path_losses» .exit)) (now («path_weights» .exit)))
         ≡ buildBytesBy older
         (lists (now (sizes .entry)) (now (losses .entry)) (now (weights .entry)))
         (lists (now («path_sizes» .entry)) (now («path_losses» .entry)) (now («path_weights» .entry))) ⌝ }
 {
     read_models(sizes, losses, weights, size_items, loss_items, weight_items);
-    read_models(
-        path_sizes,
-        path_losses,
-        path_weights,
-        path_size_items,
-        path_loss_items,
-        path_weight_items,
-    );
-    let made = quadratic::build_by(
+    let made = quadratic::build_within(
         older,
         size_items,
         loss_items,
         weight_items,
-        path_size_items,
-        path_loss_items,
-        path_weight_items,
+        path_sizes.len() / 2,
+        path_losses.len() / 8,
+        path_weights.len() / 2,
     );
+    if made.refusal != 0 {
+        return made;
+    }
     encode_models(
-        made.refusal,
+        0,
         path_sizes,
         path_losses,
         path_weights,
-        path_size_items,
-        path_loss_items,
-        path_weight_items,
+        size_items,
+        loss_items,
+        weight_items,
     );
     made
 }
@@ -176,16 +156,9 @@ pub fn build_by(
     let mut size_items = [0u64; MODELS_READ];
     let mut loss_items = [0u64; MODELS_READ];
     let mut weight_items = [0u64; MODELS_READ];
-    let mut path_size_items = [0u64; MAX_MODELS];
-    let mut path_loss_items = [0u64; MAX_MODELS];
-    let mut path_weight_items = [0u64; MAX_MODELS];
     let a = smaller(sizes.len() / 2, MODELS_READ);
     let b = smaller(losses.len() / 8, MODELS_READ);
     let c = smaller(weights.len() / 2, MODELS_READ);
-    let most = smaller(larger(larger(a, b), c), MAX_MODELS);
-    let s = smaller(path_sizes.len() / 2, most);
-    let l = smaller(path_losses.len() / 8, most);
-    let w = smaller(path_weights.len() / 2, most);
     build_items(
         older,
         sizes,
@@ -197,30 +170,20 @@ pub fn build_by(
         &mut size_items[..a],
         &mut loss_items[..b],
         &mut weight_items[..c],
-        &mut path_size_items[..s],
-        &mut path_loss_items[..l],
-        &mut path_weight_items[..w],
     )
 }
 
-// A selection by lists with as many places as there are items to look at.
-fn select_items(
-    sizes: &[u8],
-    losses: &[u8],
-    weights: &[u8],
-    entries: usize,
-    p: u64,
-    q: u64,
-    size_items: &mut [u64],
-    loss_items: &mut [u64],
-    weight_items: &mut [u64],
-) -> SelectResult
-    requires { ⌜ PathFits (entriesRead entries) (lists (now sizes) (now losses) (now weights))
-        (length (now «size_items»)) (length (now «loss_items»)) (length (now «weight_items»)) ⌝ }
-    ensures { λ r. ⌜ r ≡ selectBytesOf (lists (now (sizes .entry)) (now (losses .entry)) (now (weights .entry))) entries p q ⌝ }
+// The answer of a refused selection.
+fn refuse_selection(refusal: u64) -> SelectResult
+    ensures { λ r. ⌜ r ≡ selectRefused refusal ⌝ }
 {
-    read_models(sizes, losses, weights, size_items, loss_items, weight_items);
-    select::select(size_items, loss_items, weight_items, entries, p, q)
+    SelectResult {
+        refusal: refusal,
+        index: 0,
+        size: 0,
+        loss: 0,
+        weight: 0,
+    }
 }
 
 // The entry of a path at the penalty p / q.
@@ -235,70 +198,65 @@ pub fn select(
     ensures { λ r. ⌜ r ≡ selectBytesOf (lists (now (sizes .entry)) (now (losses .entry)) (now (weights .entry))) entries p q ⌝ }
 {
     if sizes.len() % 2 + losses.len() % 8 + weights.len() % 2 != 0 {
-        return SelectResult {
-            refusal: 11,
-            index: 0,
-            size: 0,
-            loss: 0,
-            weight: 0,
-        };
+        return refuse_selection(11);
     }
-    let mut size_items = [0u64; MAX_MODELS];
-    let mut loss_items = [0u64; MAX_MODELS];
-    let mut weight_items = [0u64; MAX_MODELS];
-    let most = smaller(entries, MAX_MODELS);
-    let s = smaller(sizes.len() / 2, most);
-    let l = smaller(losses.len() / 8, most);
-    let w = smaller(weights.len() / 2, most);
-    select_items(
-        sizes,
-        losses,
-        weights,
-        entries,
-        p,
-        q,
-        &mut size_items[..s],
-        &mut loss_items[..l],
-        &mut weight_items[..w],
-    )
+    let valid = entries::valid_path(sizes, losses, weights, entries);
+    let refusal = select::select_refusal(valid, entries, p, q);
+    if refusal != 0 {
+        return refuse_selection(refusal);
+    }
+    let at = entries::walk(losses, weights, entries, p, q);
+    let entry = entries::entry_at(sizes, losses, weights, at);
+    SelectResult {
+        refusal: 0,
+        index: at,
+        size: entry.size,
+        loss: entry.loss,
+        weight: entry.weight,
+    }
 }
 
-// A listing of breakpoints by lists with as many places as there are items to look at.
-fn breakpoints_items(
+// The answer of a refused listing.
+fn refuse_listing(refusal: u64) -> BreakpointsResult
+    ensures { λ r. ⌜ r ≡ record { refusal = refusal; count = 0 } ⌝ }
+{
+    BreakpointsResult {
+        refusal: refusal,
+        count: 0,
+    }
+}
+
+// A listing where no byte is left over.
+fn breakpoints_whole(
     sizes: &[u8],
     losses: &[u8],
     weights: &[u8],
     entries: usize,
     numerators: &mut [u8],
     denominators: &mut [u8],
-    size_items: &mut [u64],
-    loss_items: &mut [u64],
-    weight_items: &mut [u64],
-    numerator_items: &mut [u64],
-    denominator_items: &mut [u64],
 ) -> BreakpointsResult
-    requires { ⌜ BreakpointsFit entries
-        (lists (now sizes) (now losses) (now weights)) (fractions (now numerators) (now denominators))
-        (length (now «size_items»)) (length (now «loss_items»)) (length (now «weight_items»))
-        (length (now «numerator_items»)) (length (now «denominator_items»)) ⌝ }
+    requires { ⌜ modelsCoding .spare (lists (now sizes) (now losses) (now weights))
+        + fractionsCoding .spare (fractions (now numerators) (now denominators)) ≡ 0 ⌝ }
     ensures { λ r. ⌜ outcome r (fractions (now (numerators .exit)) (now (denominators .exit)))
-        ≡ breakpointsBytesOf (lists (now (sizes .entry)) (now (losses .entry)) (now (weights .entry))) entries
+        ≡ breakpointsEncoded (lists (now (sizes .entry)) (now (losses .entry)) (now (weights .entry))) entries
         (fractions (now (numerators .entry)) (now (denominators .entry))) ⌝ }
 {
-    read_models(sizes, losses, weights, size_items, loss_items, weight_items);
-    read_items(numerators, 8, numerator_items);
-    read_items(denominators, 2, denominator_items);
-    let made = select::breakpoints(
-        size_items,
-        loss_items,
-        weight_items,
+    let valid = entries::valid_path(sizes, losses, weights, entries);
+    let refusal = select::breakpoints_refusal(
+        valid,
         entries,
-        numerator_items,
-        denominator_items,
+        numerators.len() / 8,
+        denominators.len() / 2,
     );
-    encode_items(made.refusal, numerators, 8, numerator_items);
-    encode_items(made.refusal, denominators, 2, denominator_items);
-    made
+    if refusal != 0 {
+        return refuse_listing(refusal);
+    }
+    let count = select::breakpoint_count(entries);
+    entries::write_breakpoints(losses, weights, count, numerators, denominators);
+    BreakpointsResult {
+        refusal: 0,
+        count: count,
+    }
 }
 
 // Writes the breakpoints between the entries of a path, not reduced, to the front of two byte strings.
@@ -316,33 +274,7 @@ pub fn breakpoints(
 {
     let spare = sizes.len() % 2 + losses.len() % 8 + weights.len() % 2;
     if spare + numerators.len() % 8 + denominators.len() % 2 != 0 {
-        return BreakpointsResult {
-            refusal: 11,
-            count: 0,
-        };
+        return refuse_listing(11);
     }
-    let mut size_items = [0u64; MAX_MODELS];
-    let mut loss_items = [0u64; MAX_MODELS];
-    let mut weight_items = [0u64; MAX_MODELS];
-    let mut numerator_items = [0u64; MAX_MODELS];
-    let mut denominator_items = [0u64; MAX_MODELS];
-    let most = smaller(entries, MAX_MODELS);
-    let s = smaller(sizes.len() / 2, most);
-    let l = smaller(losses.len() / 8, most);
-    let w = smaller(weights.len() / 2, most);
-    let a = smaller(numerators.len() / 8, most);
-    let b = smaller(denominators.len() / 2, most);
-    breakpoints_items(
-        sizes,
-        losses,
-        weights,
-        entries,
-        numerators,
-        denominators,
-        &mut size_items[..s],
-        &mut loss_items[..l],
-        &mut weight_items[..w],
-        &mut numerator_items[..a],
-        &mut denominator_items[..b],
-    )
+    breakpoints_whole(sizes, losses, weights, entries, numerators, denominators)
 }

@@ -1,6 +1,6 @@
 -- What a function over byte strings owes: it answers 11 where bytes are left over, and else it reads the first items of each string,
 -- makes the call on them, and where that is accepted writes them back. That this is the call over the whole strings takes one fact of
--- the call on numbers (`Cut`), which `cut-by` gives for a call by its checks.
+-- the call on numbers (`Cut`), which `cut-by` gives for a call by its checks. A call may also be made in lists of its own.
 use mathlib.Core.Path.{_≡_, refl, ap, sym, _∙_}
 use mathlib.Core.Bool.{Bool, true, false, cond}
 use mathlib.Core.List.{List, [], _∷_}
@@ -36,6 +36,19 @@ module _ {A : Type 0} (C D : Coding) (a : Answers A) (call : C .Numbers → D .N
   whole-strings h =
       accepts checked (λ n. outcome (a .refused n) b) made
       (last-passes (check 11 (eqb (C .spare s + D .spare b) 0)) (ap (λ (n : ℕ). eqb n 0) h))
+
+-- What a call on the numbers leaves, o, as a call that works on the bytes leaves it: the strings as they were, or the bytes of the
+-- buffers.
+module _ {A : Type 0} (D : Coding) (a : Answers A) (b : D .Strings) (o : Outcome A (D .Numbers)) where
+  pub encoded-refused : (n : ℕ) → (n ≡ 0 → ⊥) → (xs : D .Numbers) → outcome (a .refused n) xs ≡ o → outcome (a .refused n) b ≡ encodedOver D a b o
+  encoded-refused n h xs e =
+      let fails : eqb (a .number (a .refused n)) 0 ≡ false = ap (λ (k : ℕ). eqb k 0) (a .numbered n) ∙ ne-eqb n 0 h in
+      (λ i. outcome (a .refused n) (cond (sym fails i) (D .bytes xs) b)) ∙ ap (encodedOver D a b) e
+
+  pub encoded-accepted : (r : A) → a .number r ≡ 0 → (xs : D .Numbers) → outcome r xs ≡ o → (y : D .Strings) → y ≡ D .bytes xs → outcome r y ≡ encodedOver D a b o
+  encoded-accepted r z xs e y f =
+      let holds : eqb (a .number r) 0 ≡ true = ap (λ (k : ℕ). eqb k 0) z in
+      (λ i. outcome r (f i)) ∙ (λ i. outcome r (cond (sym holds i) (D .bytes xs) b)) ∙ ap (encodedOver D a b) e
 
 -- What a call leaves by its checks, told in other words.
 pub told : {O A : Type 0} (f : O → A) (checks : List Check) (refused : ℕ → O) (accepted : O)
@@ -116,3 +129,23 @@ module _ {A : Type 0} {C D : Coding} (P : Cutting C) (Q : Cutting D) (a : Answer
           ∙ (λ i. encodedOver D a b (longer (D .numbers b) (on-front i)))
           ∙ ap (encodedOver D a b) (sym (c .cut))
           ∙ whole-strings C D a call s b whole
+
+-- A call that was made in other lists than the buffers, and answered as the call on the numbers does.
+module _ {A : Type 0} (C D : Coding) (a : Answers A) (call : C .Numbers → D .Numbers → Outcome A (D .Numbers)) (s : C .Strings) (b : D .Strings)
+    (whole : C .spare s + D .spare b ≡ 0) (answer : A) where
+  -- Where it is refused, the strings stay.
+  pub strings-stay : (a .number answer ≡ 0 → ⊥) → outcome answer (D .numbers b) ≡ call (C .numbers s) (D .numbers b) → outcome answer b ≡ onBytes C D a call s b
+  strings-stay h is =
+      let e = ne-eqb (a .number answer) 0 h in
+      (λ i. outcome answer (cond (sym e i) (D .bytes (D .numbers b)) b)) ∙ ap (encodedOver D a b) is ∙ whole-strings C D a call s b whole
+
+  -- Where it is accepted, what it leaves is written over their front.
+  pub strings-written : a .number answer ≡ 0 → D .Held b → (Q : Cutting D) (after : D .Numbers)
+      → outcome answer (Q .rejoined (D .numbers b) after) ≡ call (C .numbers s) (D .numbers b)
+      → Q .Fits b after → (final : D .Strings) → final ≡ Q .left true b after → outcome answer final ≡ onBytes C D a call s b
+  strings-written z held Q after is fits final e =
+      let written = e ∙ Q .writes b held (nothing-left (C .spare s) (D .spare b) whole .1) after fits in
+      (λ i. outcome answer (written i))
+      ∙ (λ i. outcome answer (cond (eqb (sym z i) 0) (D .bytes (Q .rejoined (D .numbers b) after)) b))
+      ∙ ap (encodedOver D a b) is
+      ∙ whole-strings C D a call s b whole

@@ -7,7 +7,7 @@ use Prim.Native.Nat.{ℕ, _+_, _*_, _/_, min}
 use native.Mathlib.Omega.{arith}
 use lib.ListN.{length, take, drop, take-append-drop}
 use Rattle.layout.specs.Items.{itemsTo, bytesOf, signedOf, unsignedOf}
-use Rattle.coding.specs.Coding.{Coding, unsigneds, signeds, raw, none, _⊗_, Names, named}
+use Rattle.coding.specs.Coding.{Coding, unsigneds, signeds, raw, _⊗_, Names, named}
 use Rattle.coding.proofs.Strings.{items-read, items-joined, signeds-read, signeds-joined}
 
 pub record Cutting (C : Coding) : Type 1 where
@@ -58,21 +58,6 @@ firstSigneds c =
 -- A string that is lent on as it is.
 abbrev pub allRaw : Cutting raw
 allRaw =
-    record {
-      taken = λ xs. xs;
-      rejoined = λ xs front. front;
-      Fits = λ b xs. Unit {0};
-      read = λ b xs. b;
-      left = λ t b xs. xs;
-      parts = λ xs. refl;
-      reads = λ b xs h. refl;
-      writes = λ b held whole xs h. refl;
-      stays = λ b. refl;
-    }
-
--- No string.
-abbrev pub noneCut : Cutting none
-noneCut =
     record {
       taken = λ xs. xs;
       rejoined = λ xs front. front;

@@ -1,6 +1,7 @@
 pub mod Strings
 pub mod Cutting
 pub mod Models
+pub mod Stores
 pub mod Calls
 pub mod Encoding
 pub mod Small

@@ -1,14 +1,14 @@
 -- The three byte strings of models or a path, together: their cutting, and what a call owes of them that reads or writes them.
-use mathlib.Core.Path.{_≡_, _∙_}
+use mathlib.Core.Path.{_≡_, sym, _∙_}
 use Prim.Native.Nat.{ℕ, _/_, _≤_, min}
 use native.Mathlib.Omega.{arith}
 use lib.ListN.{length, getD, take, replicate}
 use mir.Syntax.{w8}
 use mir.Val.{Fits}
-use Rattle.path.specs.Model.{Lists}
+use Rattle.path.specs.Model.{Lists, lists}
 use Rattle.coding.specs.Models.{listNames, modelsCoding}
 use Rattle.coding.specs.Inner.{ListsFit, HoldsModels}
-use Rattle.coding.proofs.Strings.{bytes-held, front-fits}
+use Rattle.coding.proofs.Strings.{bytes-held, items-back, front-fits}
 use Rattle.coding.proofs.Cutting.{Cutting, firstUnsigneds, _⊠_, namedCut}
 
 -- The first n models.
@@ -20,6 +20,14 @@ module _ (x : Lists) where
   pub models-held : ((i : ℕ) → Fits w8 (getD (x .sizes) i 0)) → ((i : ℕ) → Fits w8 (getD (x .losses) i 0)) → ((i : ℕ) → Fits w8 (getD (x .weights) i 0))
       → modelsCoding .Held x
   models-held f g h = (bytes-held (x .sizes) f, (bytes-held (x .losses) g, bytes-held (x .weights) h))
+
+  -- Whole items give their bytes back.
+  pub models-back : modelsCoding .Held x → modelsCoding .spare x ≡ 0 → x ≡ modelsCoding .bytes (modelsCoding .numbers x)
+  models-back held whole =
+      let s = items-back 2 (x .sizes) (held .0) (omega arith) in
+      let l = items-back 8 (x .losses) (held .1 .0) (omega arith) in
+      let w = items-back 2 (x .weights) (held .1 .1) (omega arith) in
+      λ i. lists (sym s i) (sym l i) (sym w i)
 
   -- Lists that fit, and have stayed as long as they were.
   module _ {n a b c : ℕ} (fit : ListsFit n x a b c) where

@@ -3,12 +3,13 @@
 use mathlib.Core.Path.{_≡_}
 use mathlib.Core.Bool.{cond}
 use mathlib.Core.List.{List, _++_, map}
-use Prim.Native.Nat.{ℕ, _*_, _/_, _≤_, min}
+use Prim.Native.Nat.{ℕ, _*_, _/_, _%_, _≤_, _<_, min}
 use lib.Dec.{eqb}
 use lib.IntN.{ℤ}
-use lib.ListN.{length, drop}
-use Rattle.layout.specs.Items.{itemsTo, bytesOf, signedOf, unsignedOf}
+use lib.ListN.{length, take, drop}
+use Rattle.layout.specs.Items.{itemsTo, itemsOf, bytesOf, signedOf, unsignedOf}
 use Rattle.path.specs.Model.{Lists}
+use Rattle.path.specs.Buffer.{overwrittenTo}
 
 -- What a string holds after a list of items of k bytes was encoded to it, by the refusal of the call.
 abbrev pub encodedTo : ℕ → ℕ → List ℕ → List ℕ → List ℕ
@@ -56,3 +57,14 @@ pub record SegmentsRead (starts levels s : List ℕ) (l : List ℤ) (a b : ℕ) 
 pub record SegmentsEncoded (refusal : ℕ) (starts levels s : List ℕ) (l : List ℤ) (starts' levels' : List ℕ) : Type 0 where
   pub starts-are : starts' ≡ encodedTo refusal 2 starts s
   pub levels-are : levels' ≡ encodedSigned refusal levels l
+
+-- A string of whole items of k bytes has an item at place `kept`, and n items or more.
+pub record Storable (k : ℕ) (bytes : List ℕ) (kept n : ℕ) : Type 0 where
+  pub whole : length bytes % k ≡ 0
+  pub inside : kept < length (itemsOf k bytes)
+  pub room : n ≤ length (itemsOf k bytes)
+
+-- The string b, which was b₀, has zeros from one place to another in whatever items it spelt.
+pub record ClearedTo (k : ℕ) (b₀ b : List ℕ) (from i : ℕ) : Type 0 where
+  pub long : length b ≡ length b₀
+  pub is : (xs : List ℕ) → b₀ ≡ bytesOf k xs → from ≤ length xs → i ≤ length xs → b ≡ bytesOf k (overwrittenTo (take from xs) i xs)

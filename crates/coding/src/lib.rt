@@ -3,8 +3,12 @@
 
 ghost use mathlib.Core.Path.{_≡_};
 ghost use Prim.Native.Nat.{_*_, _≤_};
-ghost use lib.ListN.{length};
-ghost use Rattle.coding.specs.Inner.{encodedTo, encodedSigned, Holds, HoldsModels, ModelsRead, ModelsEncoded, SegmentsRead, SegmentsEncoded};
+ghost use mathlib.Core.List.{_∷_, [], _++_};
+ghost use lib.ListN.{length, take};
+ghost use Rattle.layout.specs.Items.{itemsOf, bytesOf};
+ghost use Rattle.path.specs.Buffer.{overwrittenTo};
+ghost use Rattle.coding.specs.Inner.{Storable, ClearedTo, encodedTo, encodedSigned, Holds, HoldsModels, ModelsRead, ModelsEncoded, SegmentsRead, SegmentsEncoded};
+use layout::put;
 use layout::read_i16s;
 use layout::read_items;
 use layout::read_u16s;
@@ -114,4 +118,30 @@ pub fn encode_segments(
 {
     encode_u16s(refusal, starts, start_items);
     encode_i16s(refusal, levels, level_items);
+}
+
+// Writes zeros as items of `width` bytes, from one place as far as another.
+fn clear_items(bytes: &mut [u8], width: usize, from: usize, n: usize)
+    requires { ⌜ (width * from ≤ length (now bytes)) × (width * n ≤ length (now bytes)) ⌝ }
+    ensures { λ r. ⌜ ClearedTo width (now (bytes .entry)) (now (bytes .exit)) from n ⌝ }
+{
+    let mut i = from;
+    let mut at = width * from;
+    while i < n {
+        put(bytes, at, width, 0);
+        at += width;
+        i += 1;
+    }
+}
+
+// Puts a value after the first items of `width` bytes, which stay, and zeros after it as far as item n.
+pub fn store_item(bytes: &mut [u8], width: usize, kept: usize, n: usize, value: u64)
+    requires { ⌜ Storable width (now bytes) kept n ⌝ }
+    ensures { λ r. ⌜ now (bytes .exit) ≡ bytesOf width (overwrittenTo
+        (take kept (itemsOf width (now (bytes .entry))) ++ (value ∷ []))
+        n
+        (itemsOf width (now (bytes .entry)))) ⌝ }
+{
+    put(bytes, width * kept, width, value);
+    clear_items(bytes, width, kept + 1, n);
 }

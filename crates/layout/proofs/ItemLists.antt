@@ -6,7 +6,7 @@ use Prim.Native.Nat.{ℕ, zero, suc, _+_, _*_, _-_, _/_, _%_, _^_, _≤_, _<_}
 use native.Mathlib.Nat.{pow-suc, mul-suc, add-suc, add-zero, mul-zero, mul-le-mul-left}
 use native.Mathlib.Omega.{arith}
 use lib.ListN.{length, getD, set, take, drop, length-set, length-append, length-drop, take-append-drop, drop-of-length-le, length-map, List·getD-map}
-use lib.Seq.{drop-cons, take-suc, take-at, drop-at, drop-drop, take-add, take-append-le, take-suc-set, drop-set-lt, take-all, append-snoc, getD-at, take-length, getD-append-add, length-take-le, drop-append-add, set-at, ext-getD}
+use lib.Seq.{drop-cons, take-suc, take-at, drop-at, drop-drop, take-add, take-append-le, take-suc-set, drop-set-lt, take-all, append-snoc, getD-at, getD-take, getD-set-same, take-set-le, take-length, getD-append-add, length-take-le, drop-append-add, set-at, ext-getD}
 use Rattle.layout.specs.Item.{item, setItem}
 use Rattle.layout.specs.Items.{Bytes, itemsTo, itemBytes, bytesOf, signedOf, unsignedOf}
 use lib.IntN.{ℤ, pos}
@@ -28,6 +28,14 @@ take-more k bytes c (suc d) =
 pub take-items : (k : ℕ) (bytes : List ℕ) (c n : ℕ) → c ≤ n → take c (itemsTo k bytes n) ≡ itemsTo k bytes c
 take-items k bytes c n h =
     let e : n ≡ c + (n - c) = omega arith in ap (λ (m : ℕ). take c (itemsTo k bytes m)) e ∙ take-more k bytes c (n - c)
+
+-- The item at place i.
+pub item-at : (k : ℕ) (bytes : List ℕ) (n i : ℕ) → i < n → getD (itemsTo k bytes n) i 0 ≡ item k bytes (k * i)
+unfolding itemsTo
+item-at k bytes n i h =
+    sym (getD-take (suc i) (itemsTo k bytes n) i 0 (omega arith))
+    ∙ ap (λ (xs : List ℕ). getD xs i 0) (take-items k bytes (suc i) n h)
+    ∙ getD-at (itemsTo k bytes i) (item k bytes (k * i)) [] 0 i (length-items k bytes i)
 
 -- A number's bytes are k bytes.
 length-itemBytes : (k v : ℕ) → length (itemBytes k v) ≡ k
@@ -183,6 +191,31 @@ pub record ReadTo (k : ℕ) (bytes items₀ items : List ℕ) (i at : ℕ) : Typ
   pub long : length items ≡ length items₀
   pub place : at ≡ k * i
   pub is : items ≡ readTo k bytes i items₀
+
+-- The bytes of the items from the i-th on.
+rest-bytes : (k : ℕ) (xs : List ℕ) (i : ℕ) → i ≤ length xs → drop (k * i) (bytesOf k xs) ≡ bytesOf k (drop i xs)
+rest-bytes k xs i h =
+    ap (λ (ys : List ℕ). drop (k * i) (bytesOf k ys)) (sym (take-append-drop i xs))
+    ∙ ap (drop (k * i)) (bytes-append k (take i xs) (drop i xs))
+    ∙ drop-at (bytesOf k (take i xs)) (bytesOf k (drop i xs)) (k * i) (length-bytes k (take i xs) ∙ ap (λ (n : ℕ). k * n) (length-take-le i xs h))
+
+-- An item put among others.
+pub set-item : (k : ℕ) (xs : List ℕ) (i v : ℕ) → i < length xs → setItem k (bytesOf k xs) (k * i) v ≡ bytesOf k (set xs i v)
+set-item k xs i v h =
+    let ys = set xs i v in
+    let b = bytesOf k xs in
+    let long : length ys ≡ length xs = length-set xs i v in
+    let whole : length b ≡ k * length xs = length-bytes k xs in
+    let start : written k ys i b ≡ b =
+    ap (λ (r : List ℕ). bytesOf k r ++ drop (k * i) b) (take-set-le i xs i v (omega arith))
+    ∙ ap (λ (r : List ℕ). bytesOf k (take i xs) ++ r) (rest-bytes k xs i (omega arith))
+    ∙ sym (bytes-append k (take i xs) (drop i xs)) ∙ ap (bytesOf k) (take-append-drop i xs) in
+    let end : written k ys (suc i) b ≡ bytesOf k ys =
+    ap (λ (r : List ℕ). bytesOf k (take (suc i) ys) ++ r) (rest-bytes k xs (suc i) h ∙ ap (bytesOf k) (sym (drop-set-lt (suc i) xs i v (omega arith))))
+    ∙ sym (bytes-append k (take (suc i) ys) (drop (suc i) ys)) ∙ ap (bytesOf k) (take-append-drop (suc i) ys) in
+    (λ j. setItem k (sym start j) (k * i) (sym (getD-set-same xs i v 0 h) j))
+    ∙ write-more k ys b i (omega arith) (omega (arith, whole, mul-le-mul-left {m = suc i} {n = length xs} k h))
+    ∙ end
 
 -- What a loop has written after i items, at the place `at`.
 pub record WrittenTo (k : ℕ) (items bytes₀ bytes : List ℕ) (i at : ℕ) : Type 0 where

@@ -2,10 +2,10 @@
 // written from one. The table of starts in the scratch and the lists of the calls in C are made of such items.
 ghost use mathlib.Core.Path.{_≡_};
 ghost use mathlib.Core.List.{map, _++_};
-ghost use Prim.Native.Nat.{_+_, _*_, _≤_};
-ghost use lib.ListN.{length, drop};
+ghost use Prim.Native.Nat.{_+_, _*_, _≤_, _<_};
+ghost use lib.ListN.{length, getD, drop};
 ghost use Rattle.layout.specs.Item.{item, setItem};
-ghost use Rattle.layout.specs.Items.{itemsTo, bytesOf, signedOf, unsignedOf};
+ghost use Rattle.layout.specs.Items.{itemsTo, itemsOf, bytesOf, signedOf, unsignedOf};
 
 // The two-byte item that starts at the byte `at`.
 pub fn get_u16(bytes: &[u8], at: usize) -> u16
@@ -62,6 +62,22 @@ pub fn put(bytes: &mut [u8], at: usize, width: usize, value: u64)
         rest = rest / 256;
         i += 1;
     }
+}
+
+// The item of two bytes at place i.
+pub fn item_u16(bytes: &[u8], i: usize) -> u64
+    requires { ⌜ i < length (itemsOf 2 (now bytes)) ⌝ }
+    ensures { λ r. ⌜ r ≡ getD (itemsOf 2 (now (bytes .entry))) i 0 ⌝ }
+{
+    get_u16(bytes, 2 * i) as u64
+}
+
+// The item of eight bytes at place i.
+pub fn item_u64(bytes: &[u8], i: usize) -> u64
+    requires { ⌜ i < length (itemsOf 8 (now bytes)) ⌝ }
+    ensures { λ r. ⌜ r ≡ getD (itemsOf 8 (now (bytes .entry))) i 0 ⌝ }
+{
+    get_u64(bytes, 8 * i)
 }
 
 // Reads as many items of `width` bytes as the list has places.
