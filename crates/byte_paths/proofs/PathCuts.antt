@@ -16,8 +16,8 @@ use Rattle·path.specs.Inner.{firstPlaces}
 use Rattle·build.specs.Build.{countOf}
 use Rattle·quadratic.specs.Inner.{withinBy}
 use Rattle·quadratic.proofs.Methods.{refused-by, accepted-by, fits-by}
-use Rattle·byte_paths·specs.Paths.{pathTold, buildCall}
-use Rattle·byte_paths·specs.Inner.{modelsRead}
+use Rattle·byte_paths·specs.specs.Paths.{pathTold, buildCall}
+use Rattle·byte_paths·specs.specs.Inner.{modelsRead}
 
 -- A build in the lists that its models are read to, of which it reads one too many if there are so many.
 module _ (older : Bool) (x b : Lists) where

@@ -14,7 +14,7 @@ use Rattle·path.specs.Model.{lists, modelAt, pathOf, valuesOf}
 use Rattle·path.specs.Update.{Fraction, breakpoint, pathBreakpoints}
 use Rattle·path.specs.Buffer.{overwritten}
 use Rattle·select.proofs.Listings.{written-none, written-step, written-long}
-use Rattle·byte_paths·specs.Inner.{WrittenIn}
+use Rattle·byte_paths·specs.specs.Inner.{WrittenIn}
 
 module _ (k : ℕ) (field : Fraction → ℕ) (losses weights b₀ : List ℕ) (whole : length b₀ % k ≡ 0) (bytes : Bytes b₀) where
   back : bytesOf k (itemsOf k b₀) ≡ b₀

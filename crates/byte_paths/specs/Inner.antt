@@ -14,7 +14,7 @@ use Rattle·path.specs.declared.PathResult.{PathResult}
 use Rattle·path.specs.Refusal.{maxModels}
 use Rattle·select.specs.Inner.{Listable}
 use Rattle·select.specs.declared.BreakpointsResult.{BreakpointsResult}
-use Rattle·byte_paths·specs.Paths.{pathAnswers, appendCall, Fractions, fractionsCoding, breakpointsAnswers, breakpointsCall}
+use Rattle·byte_paths·specs.specs.Paths.{pathAnswers, appendCall, Fractions, fractionsCoding, breakpointsAnswers, breakpointsCall}
 
 -- How many models a build looks at.
 abbrev pub modelsRead : ℕ

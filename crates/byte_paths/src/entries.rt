@@ -15,7 +15,7 @@ ghost use Rattle·path.specs.Inner.{HasPlaces, Scannable, PassesOver, TestsLast,
 ghost use Rattle·path.specs.Update.{Fraction};
 ghost use Rattle·select.specs.Penalty.{validPenalty};
 ghost use Rattle·select.specs.Inner.{Walkable, Selects};
-ghost use Rattle·byte_paths·specs.Inner.{LastIs, ListableIn, WrittenIn};
+ghost use Rattle·byte_paths·specs.specs.Inner.{LastIs, ListableIn, WrittenIn};
 use layout::item_u16;
 use layout::item_u64;
 use layout::put;
@@ -27,7 +27,6 @@ use path::tally::Tested;
 use select::cost_of;
 
 // An entry of a path.
-#[derive(Drop)]
 pub struct Entry {
     pub size: u64,
     pub loss: u64,

@@ -8,8 +8,8 @@ ghost use lib.ListN.{length};
 ghost use Rattle·coding.specs.Coding.{outcome};
 ghost use Rattle·coding.specs.Models.{modelsCoding};
 ghost use Rattle·path.specs.Model.{model, lists};
-ghost use Rattle·byte_paths·specs.Paths.{appendBytesOf, buildBytesBy, selectBytesOf, fractions, fractionsCoding, breakpointsBytesOf};
-ghost use Rattle·byte_paths·specs.Inner.{BuildFits, appendEncoded, breakpointsEncoded};
+ghost use Rattle·byte_paths·specs.specs.Paths.{appendBytesOf, buildBytesBy, selectBytesOf, fractions, fractionsCoding, breakpointsBytesOf};
+ghost use Rattle·byte_paths·specs.specs.Inner.{BuildFits, appendEncoded, breakpointsEncoded};
 ghost use Rattle·select.specs.Select.{selectRefused};
 
 pub mod entries;

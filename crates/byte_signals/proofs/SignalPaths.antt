@@ -19,10 +19,10 @@ use Rattle·signal.specs.Signal.{sizeCount, placeCount, leastLosses, signalPath}
 use Rattle·signal.specs.SignalPath.{PathBuffers, pathBuffers, pathRooms, validLen, roomCheck, signalPathChecks, signalPathRefused, SignalPathOutcome, signalPathLeft, signalPathOf}
 use Rattle·signal.specs.declared.SignalPathResult.{SignalPathResult}
 use Rattle·signal.proofs.Inputs.{path-solvable}
-use Rattle·byte_signals·specs.Signals.{SignalNumbers, signalNumbers, signalStringNames, signalNumberNames, signalCoding, pathNames, pathCoding, signalPathAnswers, signalPathTold, signalPathCall}
-use Rattle·byte_signals·specs.Inner.{readSamples}
-use Rattle·byte_signals·proofs.SignalCuts.{few-samples, input-cut, filled-cut}
-use Rattle·byte_signals·proofs.WeightCuts.{weightsCut, weighed-cut, accepted-weights}
+use Rattle·byte_signals·specs.specs.Signals.{SignalNumbers, signalNumbers, signalStringNames, signalNumberNames, signalCoding, pathNames, pathCoding, signalPathAnswers, signalPathTold, signalPathCall}
+use Rattle·byte_signals·specs.specs.Inner.{readSamples}
+use Rattle·byte_signals·proofs.proofs.SignalCuts.{few-samples, input-cut, filled-cut}
+use Rattle·byte_signals·proofs.proofs.WeightCuts.{weightsCut, weighed-cut, accepted-weights}
 
 abbrev pub samplesCut : Cutting signeds
 samplesCut = firstSigneds readSamples

@@ -19,10 +19,10 @@ use Rattle·signal.specs.SignalPath.{validLen, roomCheck}
 use Rattle·signal.specs.Split.{SplitBuffers, splitBuffers, splitRooms, splitChecks, splitRefused, SplitOutcome, splitAt, splitOf}
 use Rattle·signal.specs.declared.SplitResult.{SplitResult}
 use Rattle·signal.proofs.Inputs.{splittable}
-use Rattle·byte_signals·specs.Signals.{SignalNumbers, splitStringNames, splitBufferNames, splitCoding, splitAnswers, splitTold, splitCall}
-use Rattle·byte_signals·proofs.SignalPaths.{signalCut, few-read, pathCut}
-use Rattle·byte_signals·proofs.SignalCuts.{input-cut, filled-cut, segments-few, pieces-few}
-use Rattle·byte_signals·proofs.WeightCuts.{weighed-cut, accepted-weights}
+use Rattle·byte_signals·specs.specs.Signals.{SignalNumbers, splitStringNames, splitBufferNames, splitCoding, splitAnswers, splitTold, splitCall}
+use Rattle·byte_signals·proofs.proofs.SignalPaths.{signalCut, few-read, pathCut}
+use Rattle·byte_signals·proofs.proofs.SignalCuts.{input-cut, filled-cut, segments-few, pieces-few}
+use Rattle·byte_signals·proofs.proofs.WeightCuts.{weighed-cut, accepted-weights}
 
 abbrev pub splitCut : Cutting splitCoding
 splitCut = namedCut splitStringNames splitBufferNames (firstUnsigneds 2 maxSegments ⊠ firstSigneds maxSegments ⊠ pathCut)

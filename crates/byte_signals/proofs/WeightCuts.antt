@@ -26,8 +26,8 @@ use Rattle·weights.specs.Inner.{folded}
 use Rattle·weights.proofs.Steps.{range-turn, range-end}
 use Rattle·weights.proofs.Folds.{folded-few, folded-checks}
 use Rattle·signal.specs.SignalPath.{validLimit, validLen, inputChecks}
-use Rattle·byte_signals·specs.Inner.{readWeights}
-use Rattle·byte_signals·proofs.SignalCuts.{check-cut}
+use Rattle·byte_signals·specs.specs.Inner.{readWeights}
+use Rattle·byte_signals·proofs.proofs.SignalCuts.{check-cut}
 
 -- Weights are only read, and cut so.
 abbrev pub weightsCut : Cutting (unsigneds 2)

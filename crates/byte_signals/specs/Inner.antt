@@ -6,7 +6,7 @@ use Rattle·coding.specs.Inner.{ListsFit}
 use Rattle·segment.specs.Segment.{maxSamples}
 use Rattle·least.specs.Segmentation.{maxSegments}
 use Rattle·signal.specs.SignalPath.{PathBuffers}
-use Rattle·byte_signals·specs.Signals.{SignalStrings, signalCoding, pathCoding, SplitStrings, splitCoding}
+use Rattle·byte_signals·specs.specs.Signals.{SignalStrings, signalCoding, pathCoding, SplitStrings, splitCoding}
 
 -- The most samples that are read, one more than a signal may have.
 abbrev pub readSamples : ℕ

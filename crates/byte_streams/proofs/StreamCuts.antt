@@ -29,7 +29,7 @@ use Rattle·stream.proofs.Cases.{extendable, splittable}
 use Rattle·byte_signals.specs.Inner.{readSamples}
 use Rattle·byte_signals.proofs.SignalCuts.{few-samples, check-cut, limit-cut, input-cut, filled-cut, segments-few, pieces-few}
 use Rattle·byte_signals.proofs.SignalPaths.{samplesCut}
-use Rattle·byte_streams·specs.Streams.{streamNames, streamCoding, extendAnswers, extendTold, extendCall, segmentStringNames, segmentBufferNames, segmentsCoding, splitFromAnswers, splitFromTold, splitFromCall}
+use Rattle·byte_streams·specs.specs.Streams.{streamNames, streamCoding, extendAnswers, extendTold, extendCall, segmentStringNames, segmentBufferNames, segmentsCoding, splitFromAnswers, splitFromTold, splitFromCall}
 
 abbrev pub streamCut : Cutting streamCoding
 streamCut = namedCut streamNames streamNames (allRaw ⊠ modelsCut maxRows)

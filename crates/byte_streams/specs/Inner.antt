@@ -8,7 +8,7 @@ use Rattle·coding.specs.Inner.{ListsFit}
 use Rattle·stream.specs.Table.{maxRows}
 use Rattle·stream.specs.Extend.{StreamBuffers}
 use Rattle·byte_signals.specs.Inner.{readSamples}
-use Rattle·byte_streams·specs.Streams.{streamCoding, SegmentStrings, segmentsCoding}
+use Rattle·byte_streams·specs.specs.Streams.{streamCoding, SegmentStrings, segmentsCoding}
 
 -- No byte is left over, and four lists have as many places as there are samples and items of the path's buffers to look at.
 pub record ExtendFits (samples : List ℕ) (b : StreamBuffers) (n s k w : ℕ) : Type 0 where

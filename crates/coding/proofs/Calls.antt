@@ -11,8 +11,8 @@ use borrow.Author.Tests.{eqb-false, ne-eqb}
 use Rattle·path.specs.Refusal.{Check, check, refusalOf, byChecks}
 use Rattle·path.proofs.Checks.{check-fails, last-passes, refuses, accepts}
 use Rattle·path.proofs.Cuts.{by-checks-cut}
-use Rattle·coding·specs.Coding.{Outcome, outcome, Answers, Coding, encodedOver, onBytes}
-use Rattle·coding·proofs.Cutting.{Cutting, nothing-left}
+use Rattle·coding·specs.specs.Coding.{Outcome, outcome, Answers, Coding, encodedOver, onBytes}
+use Rattle·coding·proofs.proofs.Cutting.{Cutting, nothing-left}
 
 -- A call of what it only reads, coded by C, and of its buffers, coded by D, on the strings s and b.
 module _ {A : Type 0} (C D : Coding) (a : Answers A) (call : C .Numbers → D .Numbers → Outcome A (D .Numbers)) (s : C .Strings) (b : D .Strings) where

@@ -8,9 +8,9 @@ use native.Mathlib.Nat.{eq-zero-or-pos}
 use native.Mathlib.Omega.{arith}
 use lib.Dec.{eqb}
 use borrow.Author.Tests.{eqb-false, eq-eqb}
-use Rattle·coding·specs.Coding.{Outcome, outcome, Answers, Coding, encodedOver, onBytes}
-use Rattle·coding·proofs.Calls.{eleven, whole-strings}
-use Rattle·coding·proofs.Fitting.{Fitting}
+use Rattle·coding·specs.specs.Coding.{Outcome, outcome, Answers, Coding, encodedOver, onBytes}
+use Rattle·coding·proofs.proofs.Calls.{eleven, whole-strings}
+use Rattle·coding·proofs.proofs.Fitting.{Fitting}
 
 -- What a call on numbers leaves, with its buffers as bytes.
 abbrev pub encoded : {A : Type 0} (D : Coding) → Outcome A (D .Numbers) → Outcome A (D .Strings)

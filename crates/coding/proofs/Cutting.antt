@@ -7,8 +7,8 @@ use Prim.Native.Nat.{ℕ, _+_, _*_, _/_, min}
 use native.Mathlib.Omega.{arith}
 use lib.ListN.{length, take, drop, take-append-drop}
 use Rattle·layout.specs.Items.{itemsTo, bytesOf, signedOf, unsignedOf}
-use Rattle·coding·specs.Coding.{Coding, unsigneds, signeds, raw, _⊗_, Names, named}
-use Rattle·coding·proofs.Strings.{items-read, items-joined, signeds-read, signeds-joined}
+use Rattle·coding·specs.specs.Coding.{Coding, unsigneds, signeds, raw, _⊗_, Names, named}
+use Rattle·coding·proofs.proofs.Strings.{items-read, items-joined, signeds-read, signeds-joined}
 
 pub record Cutting (C : Coding) : Type 1 where
   -- The numbers that are looked at, and such numbers with the rest after them.

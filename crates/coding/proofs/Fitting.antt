@@ -12,10 +12,10 @@ use Rattle·layout.specs.Items.{Bytes, itemsTo, itemsOf, bytesOf, signedOf, unsi
 use Rattle·layout.proofs.ItemLists.{length-bytes, items-low}
 use Rattle·layout.proofs.ItemLists as items
 use Rattle·layout.proofs.Signs.{mag-signed, unsigned-small, signed-unsigned}
-use Rattle·coding·specs.Coding.{Coding, unsigneds, signeds, raw, _⊗_, Names, named}
-use Rattle·coding·proofs.Strings.{items-back, signeds-back}
-use Rattle·coding·proofs.Cutting.{nothing-left}
-use Rattle·coding·proofs.Small.{Every, every-at, Small, below-small}
+use Rattle·coding·specs.specs.Coding.{Coding, unsigneds, signeds, raw, _⊗_, Names, named}
+use Rattle·coding·proofs.proofs.Strings.{items-back, signeds-back}
+use Rattle·coding·proofs.proofs.Cutting.{nothing-left}
+use Rattle·coding·proofs.proofs.Small.{Every, every-at, Small, below-small}
 
 pub record Fitting (D : Coding) : Type 1 where
   pub Fit : D .Numbers → Type 0

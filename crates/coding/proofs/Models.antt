@@ -6,10 +6,10 @@ use lib.ListN.{length, getD, take, replicate}
 use mir.Syntax.{w8}
 use mir.Val.{Fits}
 use Rattle·path.specs.Model.{Lists, lists}
-use Rattle·coding·specs.Models.{listNames, modelsCoding}
-use Rattle·coding·specs.Inner.{ListsFit, HoldsModels}
-use Rattle·coding·proofs.Strings.{bytes-held, items-back, front-fits}
-use Rattle·coding·proofs.Cutting.{Cutting, firstUnsigneds, _⊠_, namedCut}
+use Rattle·coding·specs.specs.Models.{listNames, modelsCoding}
+use Rattle·coding·specs.specs.Inner.{ListsFit, HoldsModels}
+use Rattle·coding·proofs.proofs.Strings.{bytes-held, items-back, front-fits}
+use Rattle·coding·proofs.proofs.Cutting.{Cutting, firstUnsigneds, _⊠_, namedCut}
 
 -- The first n models.
 abbrev pub modelsCut : ℕ → Cutting modelsCoding

@@ -13,8 +13,8 @@ use Rattle·layout.proofs.Laws.{length-setItem}
 use Rattle·layout.proofs.ItemLists.{length-bytes, set-item}
 use Rattle·path.specs.Buffer.{overwritten, overwrittenTo}
 use Rattle·path.proofs.Buffers.{length-overwritten, length-zeros, zeros-grow}
-use Rattle·coding·specs.Inner.{Storable, ClearedTo}
-use Rattle·coding·proofs.Strings.{items-back}
+use Rattle·coding·specs.specs.Inner.{Storable, ClearedTo}
+use Rattle·coding·proofs.proofs.Strings.{items-back}
 
 -- Zeros as far as place i are written, and the next item stands at the byte `at`.
 pub record Clearing (k : ℕ) (b₀ b : List ℕ) (from n i at : ℕ) : Type 0 where

@@ -3,7 +3,7 @@ use mathlib.Core.Path.{refl}
 use mathlib.Core.List.{List}
 use Prim.Native.Nat.{ℕ}
 use Rattle·path.specs.Model.{Lists, lists}
-use Rattle·coding·specs.Coding.{Coding, unsigneds, _⊗_, Names, named}
+use Rattle·coding·specs.specs.Coding.{Coding, unsigneds, _⊗_, Names, named}
 
 -- The strings, or the numbers that they hold, stand in the order in which every call takes them.
 abbrev pub listNames : Names Lists (List ℕ × (List ℕ × List ℕ))

@@ -7,7 +7,7 @@ ghost use mathlib.Core.List.{_∷_, [], _++_};
 ghost use lib.ListN.{length, take};
 ghost use Rattle·layout.specs.Items.{itemsOf, bytesOf};
 ghost use Rattle·path.specs.Buffer.{overwrittenTo};
-ghost use Rattle·coding·specs.Inner.{Storable, ClearedTo, encodedTo, encodedSigned, Holds, HoldsModels, ModelsRead, ModelsEncoded, SegmentsRead, SegmentsEncoded};
+ghost use Rattle·coding·specs.specs.Inner.{Storable, ClearedTo, encodedTo, encodedSigned, Holds, HoldsModels, ModelsRead, ModelsEncoded, SegmentsRead, SegmentsEncoded};
 use layout::put;
 use layout::read_i16s;
 use layout::read_items;

@@ -9,15 +9,15 @@ use Rattle·hull.proofs.Quadratics.{quadratic-claim}
 use Rattle·byte_paths.specs.Paths.{pathAnswers, buildCall}
 use Rattle·byte_signals.specs.Signals.{signalCoding, pathCoding, signalPathAnswers, signalPathCall, splitCoding, splitAnswers, splitCall}
 use Rattle·byte_streams.specs.Streams.{streamCoding, extendAnswers, extendCall}
-use Rattle·demands·specs.Origins.{Origin, Accepted, stateOf}
-use Rattle·demands·specs.Signals.{stateWith, sizesOccurring}
-use Rattle·demands·specs.ByteHistories.{modelsIn}
-use Rattle·demands·specs.ByteOrigins.{ByteOrigin, ByteAccepted, byteStateOf, ByteOriginClaim}
-use Rattle·demands·proofs.Origins.{origin-claim}
-use Rattle·demands·proofs.Fitting.{modelsFit}
-use Rattle·demands·proofs.ByteHistories.{FitsIn, FitsState, fits-build, encoded, appends-engine}
-use Rattle·demands·proofs.ByteSignals.{samples-fit, pathFit, path-fits, split-fits}
-use Rattle·demands·proofs.ByteStreams.{byte-left-claim, all-small, extension-fits}
+use Rattle·demands·specs.specs.Origins.{Origin, Accepted, stateOf}
+use Rattle·demands·specs.specs.Signals.{stateWith, sizesOccurring}
+use Rattle·demands·specs.specs.ByteHistories.{modelsIn}
+use Rattle·demands·specs.specs.ByteOrigins.{ByteOrigin, ByteAccepted, byteStateOf, ByteOriginClaim}
+use Rattle·demands·proofs.proofs.Origins.{origin-claim}
+use Rattle·demands·proofs.proofs.Fitting.{modelsFit}
+use Rattle·demands·proofs.proofs.ByteHistories.{FitsIn, FitsState, fits-build, encoded, appends-engine}
+use Rattle·demands·proofs.proofs.ByteSignals.{samples-fit, pathFit, path-fits, split-fits}
+use Rattle·demands·proofs.proofs.ByteStreams.{byte-left-claim, all-small, extension-fits}
 
 -- The call on the numbers that the strings hold.
 abbrev asNumbers : ByteOrigin → Origin

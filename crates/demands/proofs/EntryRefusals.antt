@@ -17,8 +17,8 @@ use Rattle·hull.specs.Refusals.{RefusesByChecks}
 use Rattle·hull.proofs.Orders.{path-refusals}
 use Rattle·models.specs.Entries.{listsIn}
 use Rattle·models.specs.declared.Entry.{Entry}
-use Rattle·demands·specs.EntryRefusals.{EntryRefusal, EntryRefusals}
-use Rattle·demands·proofs.EntryHistories.{entries-fixed}
+use Rattle·demands·specs.specs.EntryRefusals.{EntryRefusal, EntryRefusals}
+use Rattle·demands·proofs.proofs.EntryHistories.{entries-fixed}
 
 -- What a call on numbers leaves answers checks in order, and what it leaves where it is refused are the numbers of the list.
 abbrev Refuses : List Check → List Entry → PathOutcome → Type 0

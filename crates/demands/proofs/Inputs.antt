@@ -31,8 +31,8 @@ use Rattle·report.proofs.Turns.{Settled, start-settled, recorded-settled, answe
 use Rattle·report.proofs.Weighing.{turn-checks}
 use Rattle·report.proofs.FormsRead.{reads-written, written-read, notes-read}
 use Rattle·report.proofs.Inputs.{report-cons, note-on}
-use Rattle·demands·specs.Inputs.{Each, Notes, OneLine, linesThen, Weighing, weighingLines, weightsIn, Later, laterLine, Lawful, asks, laterText, Front, frontLines, Weighed, InOrder, printedBy, dueBy, reachedBy, stateAfter, endText, firstChecks, secondChecks, weighingChecks, thirdChecks, lineChecks}
-use Rattle·demands·specs.Reports.{OrderedClaim, EndClaim, UnendedClaim, RefusedLineClaim, Ending, endingBytes, Ends, EveryInput, TooLongClaim}
+use Rattle·demands·specs.specs.Inputs.{Each, Notes, OneLine, linesThen, Weighing, weighingLines, weightsIn, Later, laterLine, Lawful, asks, laterText, Front, frontLines, Weighed, InOrder, printedBy, dueBy, reachedBy, stateAfter, endText, firstChecks, secondChecks, weighingChecks, thirdChecks, lineChecks}
+use Rattle·demands·specs.specs.Reports.{OrderedClaim, EndClaim, UnendedClaim, RefusedLineClaim, Ending, endingBytes, Ends, EveryInput, TooLongClaim}
 
 -- A byte other than 10 in front.
 other-byte : (b : ℕ) (s : List ℕ) → (b ≡ 10 → ⊥) → without 10 s ≡ true → without 10 (b ∷ s) ≡ true

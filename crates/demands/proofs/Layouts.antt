@@ -11,7 +11,7 @@ use lib.ListN.{length}
 use Rattle·layout.specs.Item.{item}
 use Rattle·layout.specs.Items.{itemsTo, itemsOf, itemBytes, bytesOf, signedOf, unsignedOf}
 use Rattle·stream.specs.Table.{value}
-use Rattle·demands·specs.Layouts.{ofEight, ItemsLayout, SignLayout, TableLayout, LayoutClaims}
+use Rattle·demands·specs.specs.Layouts.{ofEight, ItemsLayout, SignLayout, TableLayout, LayoutClaims}
 
 -- Where every item of s is the next one of t, the items of t are its first and those of s.
 first-item : (k : ℕ) (t s : List ℕ) → ((n : ℕ) → item k t (k * suc n) ≡ item k s (k * n)) → (n : ℕ)

@@ -14,7 +14,7 @@ use Rattle·path.proofs.Cuts.{le-or-lt}
 use Rattle·text.specs.Text.{bytes, same}
 use Rattle·text.specs.Notes.{closes, begins, isNote, maxDepth}
 use Rattle·text.proofs.Parts.{same-eq}
-use Rattle·demands·specs.NoteRules.{times, opened, closed, KeepsNotes, NoteRuleClaim}
+use Rattle·demands·specs.specs.NoteRules.{times, opened, closed, KeepsNotes, NoteRuleClaim}
 
 -- Every byte of a text is one of 32 to 126.
 abbrev Printable : List ℕ → Type 0

@@ -9,9 +9,9 @@ use Rattle·signal.proofs.Inputs.{path-solvable}
 use Rattle·signal.proofs.Cases.{path-refusal, path-accepted}
 use Rattle·hull.proofs.Engines.{Engine, engine-appends}
 use Rattle·hull.proofs.Quadratics.{older-engine}
-use Rattle·demands·specs.Origins.{Origin, Accepted, stateOf, OriginClaim}
-use Rattle·demands·proofs.Signals.{engine, split-is, asked}
-use Rattle·demands·proofs.Streams.{path-lent, path-same, path-agreed}
+use Rattle·demands·specs.specs.Origins.{Origin, Accepted, stateOf, OriginClaim}
+use Rattle·demands·proofs.proofs.Signals.{engine, split-is, asked}
+use Rattle·demands·proofs.proofs.Streams.{path-lent, path-same, path-agreed}
 
 -- The state after an accepted call for a signal's path.
 signal-engine : (xs : List ℤ) (limit d : ℕ) (ws : List ℕ) (b : PathBuffers) → Samples16 xs → signalPathOf xs limit d ws b .refusal ≡ 0 → Engine (stateOf (Origin.signal-path xs limit d ws b))

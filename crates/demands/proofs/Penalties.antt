@@ -15,8 +15,8 @@ use Rattle·stream.specs.SplitFrom.{SegmentBuffers, splitInto, splitFromOf}
 use Rattle·byte_paths.specs.Paths.{selectAnswers}
 use Rattle·byte_signals.specs.Signals.{signalCoding, splitCoding, splitAnswers, splitTold}
 use Rattle·byte_streams.specs.Streams.{segmentsCoding, splitFromAnswers, splitFromTold}
-use Rattle·demands·specs.Penalties.{GoesByValue, SamePenalties}
-use Rattle·demands·proofs.Signals.{same-segments, same-split}
+use Rattle·demands·specs.specs.Penalties.{GoesByValue, SamePenalties}
+use Rattle·demands·proofs.proofs.Signals.{same-segments, same-split}
 
 same-from-table : (xs : List ℤ) (limit : ℕ) (t : List ℕ) (b : SegmentBuffers) → GoesByValue (λ p q. splitFromOf xs limit p q t b)
 unfolding splitFromOf

@@ -39,8 +39,8 @@ use Rattle·signal.specs.Split.{SplitBuffers, splitRooms, SplitOutcome, splitRef
 use Rattle·byte_signals.specs.Signals.{pathCoding, signalPathAnswers, signalPathTold, splitCoding, splitAnswers, splitTold}
 use Rattle·byte_signals.proofs.SignalCuts.{check-cut}
 use Rattle·byte_signals.proofs.WeightCuts.{weights-first}
-use Rattle·demands·specs.SizesAsWeights.{OwnWeight, OwnWeights, SameLists, OwnWeightRules, OwnWeightCalls, sizesFrom, sizesUpTo, SizesForNone, SizesAsWeights}
-use Rattle·demands·proofs.EveryEntry.{every-joined, every-path, every-built}
+use Rattle·demands·specs.specs.SizesAsWeights.{OwnWeight, OwnWeights, SameLists, OwnWeightRules, OwnWeightCalls, sizesFrom, sizesUpTo, SizesForNone, SizesAsWeights}
+use Rattle·demands·proofs.proofs.EveryEntry.{every-joined, every-path, every-built}
 
 -- A test that stands twice.
 range-once : (a b c : Bool) → (a && b && c && (a && b)) ≡ (a && b && c)

@@ -15,9 +15,9 @@ use Rattle·hull.specs.History.{State}
 use Rattle·byte_paths.specs.Paths.{quadraticBytesOf}
 use Rattle·byte_signals.specs.Signals.{SignalStrings, signalCoding, pathCoding, signalPathBytesOf, SplitStrings, splitCoding, splitBytesOf}
 use Rattle·byte_streams.specs.Streams.{streamCoding, extendBytesOf}
-use Rattle·demands·specs.Signals.{stateWith, sizesOccurring}
-use Rattle·demands·specs.ByteHistories.{modelsIn, byteAppends, ByteEnginePath}
-use Rattle·demands·specs.ByteStreams.{ByteLeft}
+use Rattle·demands·specs.specs.Signals.{stateWith, sizesOccurring}
+use Rattle·demands·specs.specs.ByteHistories.{modelsIn, byteAppends, ByteEnginePath}
+use Rattle·demands·specs.specs.ByteStreams.{ByteLeft}
 
 -- The call that a history begins with, by its input. It is as for calls on numbers, with byte strings for lists; a signal's samples and
 -- weights come together, and the new sample of an extension is a number.

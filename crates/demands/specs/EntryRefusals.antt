@@ -17,7 +17,7 @@ use Rattle·select.specs.declared.BreakpointsResult.{BreakpointsResult}
 use Rattle·hull.specs.Refusals.{RefusesByChecks}
 use Rattle·models.specs.Entries.{listsIn}
 use Rattle·models.specs.declared.Entry.{Entry}
-use Rattle·demands·specs.EntryHistories.{AppendAllows, BuildAllows, SelectAllows, BreakpointsAllows}
+use Rattle·demands·specs.specs.EntryHistories.{AppendAllows, BuildAllows, SelectAllows, BreakpointsAllows}
 
 -- A call that is lent a list, answers r and leaves the list y answers its checks in order, and a refused one gives its number, zeros, and
 -- the list as it was.

@@ -14,7 +14,7 @@ use Rattle·signal.specs.SignalPath.{PathBuffers, signalPathOf}
 use Rattle·signal.specs.Split.{SplitBuffers, splitOf}
 use Rattle·stream.specs.Extend.{StreamBuffers, extendOf}
 use Rattle·stream.specs.Claims.{Left}
-use Rattle·demands·specs.Signals.{stateWith, sizesOccurring}
+use Rattle·demands·specs.specs.Signals.{stateWith, sizesOccurring}
 
 -- The call that a history begins with, by its input: a build by the older method, of the lists and the buffers; a call for a signal's
 -- path and a split, of the samples, the limit, the least number of samples of a segment, the weights, for a split the penalty, and the

@@ -14,7 +14,7 @@ use Rattle·stream.specs.SplitFrom.{SegmentBuffers, splitFromOf}
 use Rattle·byte_paths.specs.Paths.{selectBytesOf}
 use Rattle·byte_signals.specs.Signals.{SignalStrings, SplitStrings, splitBytesOf}
 use Rattle·byte_streams.specs.Streams.{SegmentStrings, splitFromBytesOf}
-use Rattle·demands·specs.EntryHistories.{SelectAllows}
+use Rattle·demands·specs.specs.EntryHistories.{SelectAllows}
 
 -- What a call leaves at a penalty is the same at every equal fraction that is a penalty too.
 abbrev pub GoesByValue : {O : Type 0} → (ℕ → ℕ → O) → Type 0

@@ -10,7 +10,7 @@ use signal::SplitResult;
 
 // The path of a signal cut into segments of min_segment_len samples or more: the sizes up to the limit that can be the cheapest at some
 // penalty, with their losses and weights. There is one weight for each size up to the limit, or none, and then a size is its own weight.
-#[unsafe(no_mangle)]
+#[no_mangle]
 pub extern "C" fn foldwig_signal_path(
     samples: &[u8],
     max_segments: u64,
@@ -48,7 +48,7 @@ pub extern "C" fn foldwig_signal_path(
 
 // The segmentation of a signal at the penalty p / q into segments of min_segment_len samples or more, and the signal's path of such
 // segments, by weights as in `foldwig_signal_path`.
-#[unsafe(no_mangle)]
+#[no_mangle]
 pub extern "C" fn foldwig_split(
     samples: &[u8],
     max_segments: u64,

@@ -21,13 +21,13 @@ use Rattle·path.proofs.Cases.{append-refusal, append-accepted, input-refused, a
 use Rattle·build.specs.Build.{built, countOf, checksAt, listChecks}
 use Rattle·build.proofs.Lists.{lacks-value, lacks-nothing, none-left, bad-model, good-model}
 use Rattle·build.proofs.Cases.{bad-list, build-refusal}
-use Rattle·hull·specs.History.{State, emptyState, afterAppend, appends, pathAt}
-use Rattle·hull·specs.Refusals.{FirstFailure}
-use Rattle·hull·specs.Claims.{modelsFrom, OfModel, AllAccepted, BadModel, BuildRefusalClaim}
-use Rattle·hull·proofs.Slopes.{less-or-not}
-use Rattle·hull·proofs.Orders.{path-refusals, failure-answers}
-use Rattle·hull·proofs.Appends.{standing-empty, standing-appends}
-use Rattle·hull·proofs.Builds.{Reached, reached-none, reached-next}
+use Rattle·hull·specs.specs.History.{State, emptyState, afterAppend, appends, pathAt}
+use Rattle·hull·specs.specs.Refusals.{FirstFailure}
+use Rattle·hull·specs.specs.Claims.{modelsFrom, OfModel, AllAccepted, BadModel, BuildRefusalClaim}
+use Rattle·hull·proofs.proofs.Slopes.{less-or-not}
+use Rattle·hull·proofs.proofs.Orders.{path-refusals, failure-answers}
+use Rattle·hull·proofs.proofs.Appends.{standing-empty, standing-appends}
+use Rattle·hull·proofs.proofs.Builds.{Reached, reached-none, reached-next}
 
 -- The number of a check of a model is none of the others of a build or of an append.
 record NoOther (c : ℕ) : Type 0 where

@@ -9,12 +9,12 @@ use Rattle·path.specs.Model.{Model}
 use Rattle·path.specs.Update.{extended, passedOver, joined}
 use Rattle·path.proofs.Paths.{length-path}
 use Rattle·path.proofs.Order.{Passes}
-use Rattle·hull·specs.History.{State, appends, pathAt}
-use Rattle·hull·specs.Claims.{EnginePath}
-use Rattle·hull·proofs.Winners.{winners-with-skipped}
-use Rattle·hull·proofs.Selections.{always-selects-smallest, always-between}
-use Rattle·hull·proofs.Orders.{never-eight}
-use Rattle·hull·proofs.Appends.{Backed, backed-joined, Lasts, lasts-appends}
+use Rattle·hull·specs.specs.History.{State, appends, pathAt}
+use Rattle·hull·specs.specs.Claims.{EnginePath}
+use Rattle·hull·proofs.proofs.Winners.{winners-with-skipped}
+use Rattle·hull·proofs.proofs.Selections.{always-selects-smallest, always-between}
+use Rattle·hull·proofs.proofs.Orders.{never-eight}
+use Rattle·hull·proofs.proofs.Appends.{Backed, backed-joined, Lasts, lasts-appends}
 
 -- A path of all models has an entry and is backed by a few of them.
 pub record Grounded (path all : List Model) : Type 0 where

@@ -7,10 +7,10 @@ use native.Mathlib.Nat.{pow-suc, mul-suc, add-suc, add-zero, mul-zero, mul-le-mu
 use native.Mathlib.Omega.{arith}
 use lib.ListN.{length, getD, set, take, drop, length-set, length-append, length-drop, take-append-drop, drop-of-length-le, length-map, List·getD-map}
 use lib.Seq.{drop-cons, take-suc, take-at, drop-at, drop-drop, take-add, take-append-le, take-suc-set, drop-set-lt, take-all, append-snoc, getD-at, getD-take, getD-set-same, take-set-le, take-length, getD-append-add, length-take-le, drop-append-add, set-at, ext-getD}
-use Rattle·layout·specs.Item.{item, setItem}
-use Rattle·layout·specs.Items.{Bytes, itemsTo, itemBytes, bytesOf, signedOf, unsignedOf}
+use Rattle·layout·specs.specs.Item.{item, setItem}
+use Rattle·layout·specs.specs.Items.{Bytes, itemsTo, itemBytes, bytesOf, signedOf, unsignedOf}
 use lib.IntN.{ℤ, pos}
-use Rattle·layout·proofs.Laws.{item-low, length-setItem}
+use Rattle·layout·proofs.proofs.Laws.{item-low, length-setItem}
 
 -- The first n items are n items.
 pub length-items : (k : ℕ) (bytes : List ℕ) (n : ℕ) → length (itemsTo k bytes n) ≡ n

@@ -6,7 +6,7 @@ use Prim.Native.Nat.{ℕ, zero, suc, _*_, _-_, _/_, _%_, _<_}
 use lib.Dec.{eqb, ltb}
 use lib.IntN.{ℤ, pos, negsuc}
 use lib.ListN.{length, getD}
-use Rattle·layout·specs.Item.{item}
+use Rattle·layout·specs.specs.Item.{item}
 
 -- Every element of a list is a byte, as in every string of bytes.
 abbrev pub Bytes : List ℕ → Type 0

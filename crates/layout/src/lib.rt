@@ -4,8 +4,8 @@ ghost use mathlib.Core.Path.{_≡_};
 ghost use mathlib.Core.List.{map, _++_};
 ghost use Prim.Native.Nat.{_+_, _*_, _≤_, _<_};
 ghost use lib.ListN.{length, getD, drop};
-ghost use Rattle·layout·specs.Item.{item, setItem};
-ghost use Rattle·layout·specs.Items.{itemsTo, itemsOf, bytesOf, signedOf, unsignedOf};
+ghost use Rattle·layout·specs.specs.Item.{item, setItem};
+ghost use Rattle·layout·specs.specs.Items.{itemsTo, itemsOf, bytesOf, signedOf, unsignedOf};
 
 // The two-byte item that starts at the byte `at`.
 pub fn get_u16(bytes: &[u8], at: usize) -> u16

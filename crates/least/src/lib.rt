@@ -7,10 +7,10 @@ ghost use mathlib.Core.List.{_++_};
 ghost use Prim.Native.Nat.{ℕ, min, _+_, _-_, _/_, _<_};
 ghost use lib.ListN.{length, drop};
 ghost use Rattle·segment.specs.Inner.{GainReady};
-ghost use Rattle·least·specs.Segmentation.{startsOf, levelsOf, chosenOf};
-ghost use Rattle·least·specs.Inner.{LimitFrom, LimitAt, LeftFrom, LeftAt, SeedFrom, Seeded, DownFrom, Picked, PickFrom, Found};
-ghost use Rattle·least·specs.Inner.{KeepFrom, Kept, NextFrom, NextRow, RowIs, RowsFrom};
-ghost use Rattle·least·specs.Inner.{Table, TableFrom, TraceFrom, LevelsFrom};
+ghost use Rattle·least·specs.specs.Segmentation.{startsOf, levelsOf, chosenOf};
+ghost use Rattle·least·specs.specs.Inner.{LimitFrom, LimitAt, LeftFrom, LeftAt, SeedFrom, Seeded, DownFrom, Picked, PickFrom, Found};
+ghost use Rattle·least·specs.specs.Inner.{KeepFrom, Kept, NextFrom, NextRow, RowIs, RowsFrom};
+ghost use Rattle·least·specs.specs.Inner.{Table, TableFrom, TraceFrom, LevelsFrom};
 use layout::get_u16;
 use layout::put_u16;
 use segment::CELLS;
@@ -29,21 +29,18 @@ pub const MAX_SEGMENTS: usize = 32;
 pub const SCRATCH_LEN: usize = 2 * (MAX_SAMPLES * (MAX_SEGMENTS - 1));
 
 // A start to search down from, no later one being better: the number of samples before the last segment, and that segment's own gain.
-#[derive(Drop)]
 struct Seed {
     own: u64,
     start: usize,
 }
 
 // A last segment: the number of samples before it, and the gain of it and of what stands before it.
-#[derive(Drop)]
 struct LastSegment {
     gain: u64,
     start: usize,
 }
 
 // What a search finds: a last segment, and the limit that the next search may begin with.
-#[derive(Drop)]
 struct Pick {
     gain: u64,
     start: usize,

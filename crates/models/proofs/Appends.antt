@@ -14,11 +14,11 @@ use Rattle·path.specs.declared.Kept.{Kept}
 use Rattle·path.specs.declared.PathResult.{PathResult}
 use Rattle·path.specs.declared.tally.Tally.{Tally}
 use Rattle·path.proofs.Checks.{check-fails, check-passes, refuses, accepts}
-use Rattle·models·specs.Inner.{lossOf, topOf, inputChecks, inputOf, refusedBy, judgedOf}
-use Rattle·models·specs.InPlace.{modelIn}
-use Rattle·models·specs.declared.Entry.{Entry}
-use Rattle·models·specs.declared.Input.{Input}
-use Rattle·models·specs.declared.Judged.{Judged}
+use Rattle·models·specs.specs.Inner.{lossOf, topOf, inputChecks, inputOf, refusedBy, judgedOf}
+use Rattle·models·specs.specs.InPlace.{modelIn}
+use Rattle·models·specs.specs.declared.Entry.{Entry}
+use Rattle·models·specs.specs.declared.Input.{Input}
+use Rattle·models·specs.specs.declared.Judged.{Judged}
 
 -- A choice, by how its test comes out.
 first-of : {A : Type 0} (t : Bool) (x y : A) → t ≡ true → x ≡ cond t x y

@@ -18,14 +18,14 @@ use Rattle·path.proofs.Order.{acceptable, scannable}
 use Rattle·path.proofs.Paths.{length-path, keeps-nothing}
 use Rattle·path.proofs.Updates.{kept-few}
 use Rattle·path.proofs.Cases as cases
-use Rattle·models·specs.Entries.{lossesIn, weightsIn, listsIn}
-use Rattle·models·specs.Inner.{noEntry, sizeOf, lossOf, storedTo, topOf, inputChecks, inputOf, refusedBy, judgedOf, Judges}
-use Rattle·models·specs.InPlace.{modelIn}
-use Rattle·models·specs.declared.Entry.{Entry}
-use Rattle·models·specs.declared.Input.{Input}
-use Rattle·models·specs.declared.Judged.{Judged}
-use Rattle·models·proofs.Looks.{model-in, room-is}
-use Rattle·models·proofs.Appends.{second-of, answer-refused, answer-over, answer-nine, answer-put}
+use Rattle·models·specs.specs.Entries.{lossesIn, weightsIn, listsIn}
+use Rattle·models·specs.specs.Inner.{noEntry, sizeOf, lossOf, storedTo, topOf, inputChecks, inputOf, refusedBy, judgedOf, Judges}
+use Rattle·models·specs.specs.InPlace.{modelIn}
+use Rattle·models·specs.specs.declared.Entry.{Entry}
+use Rattle·models·specs.specs.declared.Input.{Input}
+use Rattle·models·specs.specs.declared.Judged.{Judged}
+use Rattle·models·proofs.proofs.Looks.{model-in, room-is}
+use Rattle·models·proofs.proofs.Appends.{second-of, answer-refused, answer-over, answer-nine, answer-put}
 
 -- The entry at place n - 1 is the top of the path, as far as the top goes.
 module _ {X : Type 0} (F : List Model → X) (head : (e : Model) (r : List Model) → F (e ∷ []) ≡ F (e ∷ r)) (ys : List Entry) where

@@ -14,11 +14,11 @@ use Rattle·path.specs.Refusal.{maxSize, maxLoss, maxWeight, maxModels, inRange,
 use Rattle·path.proofs.Checks.{both, room-parts}
 use Rattle·path.proofs.Order.{within, Before, follows-before}
 use Rattle·path.proofs.Turns.{Small, before-small, ordered-none, ordered-one, last-fails, order-fails, entry-passes}
-use Rattle·models·specs.Entries.{listsIn}
-use Rattle·models·specs.Inner.{noEntry}
-use Rattle·models·specs.InPlace.{modelIn, lookOf, noLook, lookFrom, looksRight, lookOn, lookPasses}
-use Rattle·models·specs.declared.Entry.{Entry}
-use Rattle·models·specs.declared.Look.{Look}
+use Rattle·models·specs.specs.Entries.{listsIn}
+use Rattle·models·specs.specs.Inner.{noEntry}
+use Rattle·models·specs.specs.InPlace.{modelIn, lookOf, noLook, lookFrom, looksRight, lookOn, lookPasses}
+use Rattle·models·specs.specs.declared.Entry.{Entry}
+use Rattle·models·specs.specs.declared.Look.{Look}
 
 -- What an entry that is as a look asks tells.
 pub record Right (s : Look) (e : Entry) : Type 0 where

@@ -8,9 +8,9 @@ use lib.ListN.{length, getD, set, length-set, length-map, List·getD-map}
 use Rattle·path.specs.Update.{Fraction}
 use Rattle·select.specs.Inner.{Listable, Written}
 use Rattle·select.proofs.Listings.{written-none, written-more}
-use Rattle·models·specs.Entries.{lossesIn, weightsIn}
-use Rattle·models·specs.Inner.{noEntry, lossOf, weightOf}
-use Rattle·models·specs.declared.Entry.{Entry}
+use Rattle·models·specs.specs.Entries.{lossesIn, weightsIn}
+use Rattle·models·specs.specs.Inner.{noEntry, lossOf, weightOf}
+use Rattle·models·specs.specs.declared.Entry.{Entry}
 
 -- How much the loss falls from an entry to the next, and how much the weight rises.
 abbrev pub lossFall : Entry → Entry → ℕ

@@ -13,9 +13,9 @@ use Rattle·select.specs.Breakpoints.{breakpointsOutcome, breakpointsChecks, bre
 use Rattle·select.specs.Inner.{Listable, Written}
 use Rattle·select.specs.declared.BreakpointsResult.{BreakpointsResult}
 use Rattle·select.proofs.Listings.{listing-checks, breakpoints-refused, breakpoints-done, listable}
-use Rattle·models·specs.Entries.{lossesIn, weightsIn, listsIn}
-use Rattle·models·specs.Inner.{listingChecks, listingOf}
-use Rattle·models·specs.declared.Entry.{Entry}
+use Rattle·models·specs.specs.Entries.{lossesIn, weightsIn, listsIn}
+use Rattle·models·specs.specs.Inner.{listingChecks, listingOf}
+use Rattle·models·specs.specs.declared.Entry.{Entry}
 
 abbrev result : ℕ → ℕ → BreakpointsResult
 result refusal count = record { refusal = refusal; count = count }

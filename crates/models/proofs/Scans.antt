@@ -14,10 +14,10 @@ use Rattle·path.specs.Update.{below, fraction, holds, kept, testsMade}
 use Rattle·path.specs.Inner.{Comparable, Scannable, KeepsOf, tallyOf}
 use Rattle·path.specs.declared.Kept.{Kept}
 use Rattle·path.proofs.Paths.{keeps-all, drops-last, first-holds, first-not-dropped, later-holds, keeps-nothing}
-use Rattle·models·specs.Entries.{lossesIn, weightsIn}
-use Rattle·models·specs.Inner.{noEntry, lossOf, weightOf, testAt}
-use Rattle·models·specs.declared.Entry.{Entry}
-use Rattle·models·proofs.Neighbours.{loss-at, weight-at}
+use Rattle·models·specs.specs.Entries.{lossesIn, weightsIn}
+use Rattle·models·specs.specs.Inner.{noEntry, lossOf, weightOf, testAt}
+use Rattle·models·specs.specs.declared.Entry.{Entry}
+use Rattle·models·proofs.proofs.Neighbours.{loss-at, weight-at}
 
 module _ (ys : List Entry) (n loss weight c₀ : ℕ) where
   abbrev all : List ℕ → Lists

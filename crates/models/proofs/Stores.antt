@@ -8,10 +8,10 @@ use lib.Seq.{length-take-le}
 use Rattle·path.specs.Model.{model, lists}
 use Rattle·path.specs.Buffer.{overwritten, overwrittenTo}
 use Rattle·path.proofs.Buffers.{front-grows}
-use Rattle·models·specs.Entries.{listsIn}
-use Rattle·models·specs.Inner.{entryOf, noEntry, sizeOf, lossOf, weightOf, storedTo}
-use Rattle·models·specs.declared.Entry.{Entry}
-use Rattle·models·proofs.Fronts.{map-set}
+use Rattle·models·specs.specs.Entries.{listsIn}
+use Rattle·models·specs.specs.Inner.{entryOf, noEntry, sizeOf, lossOf, weightOf, storedTo}
+use Rattle·models·specs.specs.declared.Entry.{Entry}
+use Rattle·models·proofs.proofs.Fronts.{map-set}
 
 -- The entries with e at place c and j entries of zeros after it.
 unfoldable pub put : List Entry → ℕ → Entry → ℕ → List Entry

@@ -16,10 +16,10 @@ use Rattle·path.proofs.Order.{valid-parts, ordered-within}
 use Rattle·select.specs.Penalty.{validPenalty, cost}
 use Rattle·select.specs.Select.{selectedFrom, selected, selectChecks, selectOf, entryIs, entryAt}
 use Rattle·select.proofs.Walks.{cost-small, ends, stops, goes-on, select-refused, select-done, Selectable, selectable, accepted}
-use Rattle·models·specs.Entries.{listsIn}
-use Rattle·models·specs.InPlace.{modelIn, walkOf, aboveCosts, walkFrom, walkOn}
-use Rattle·models·specs.declared.Entry.{Entry}
-use Rattle·models·specs.declared.Walk.{Walk}
+use Rattle·models·specs.specs.Entries.{listsIn}
+use Rattle·models·specs.specs.InPlace.{modelIn, walkOf, aboveCosts, walkFrom, walkOn}
+use Rattle·models·specs.specs.declared.Entry.{Entry}
+use Rattle·models·specs.specs.declared.Walk.{Walk}
 
 module _ (t : Lists) (n p q : ℕ) where
   -- Before the first entry of a selection that is accepted.

@@ -8,9 +8,9 @@ use Rattle·path.specs.Refusal.{Check, check, refusalOf, maxSize, maxLoss, maxWe
 use Rattle·select.specs.Penalty.{validPenalty, cost}
 use Rattle·select.specs.Select.{selectRefused, entryIs}
 use Rattle·select.specs.declared.SelectResult.{SelectResult}
-use Rattle·models·specs.declared.Entry.{Entry}
-use Rattle·models·specs.declared.Look.{Look}
-use Rattle·models·specs.declared.Walk.{Walk}
+use Rattle·models·specs.specs.declared.Entry.{Entry}
+use Rattle·models·specs.specs.declared.Look.{Look}
+use Rattle·models·specs.specs.declared.Walk.{Walk}
 
 -- An entry as a model.
 abbrev pub modelIn : Entry → Model

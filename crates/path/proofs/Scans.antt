@@ -7,12 +7,12 @@ use Prim.Native.Nat.{ℕ, zero, suc, _+_, _-_, _≤_, _<_}
 use native.Mathlib.Omega.{arith}
 use lib.Dec.{eqb}
 use lib.ListN.{length, getD}
-use Rattle·path·specs.Model.{Model, model, Lists, lists, modelAt, pathOf}
-use Rattle·path·specs.Update.{below, breakpoint, holds, kept, testsMade, passedOver}
-use Rattle·path·specs.Inner.{Comparable, Scannable, PassesOver, TestsLast, tallyOf, keptOf}
-use Rattle·path·specs.declared.Kept.{Kept}
-use Rattle·path·specs.declared.tally.Tally.{Tally}
-use Rattle·path·proofs.Paths.{keeps-all, drops-last, first-holds, first-not-dropped, later-holds}
+use Rattle·path·specs.specs.Model.{Model, model, Lists, lists, modelAt, pathOf}
+use Rattle·path·specs.specs.Update.{below, breakpoint, holds, kept, testsMade, passedOver}
+use Rattle·path·specs.specs.Inner.{Comparable, Scannable, PassesOver, TestsLast, tallyOf, keptOf}
+use Rattle·path·specs.specs.declared.Kept.{Kept}
+use Rattle·path·specs.specs.declared.tally.Tally.{Tally}
+use Rattle·path·proofs.proofs.Paths.{keeps-all, drops-last, first-holds, first-not-dropped, later-holds}
 
 -- After an empty path nothing is passed over, and else the last loss decides.
 pub none-passed : (losses : List ℕ) (n loss : ℕ) → n ≡ 0 → PassesOver losses n loss false

@@ -5,9 +5,9 @@ use mathlib.Core.Bool.{Bool, true, false, _&&_}
 use Prim.Native.Nat.{ℕ, zero, suc, _≤_, _<_}
 use native.Mathlib.Omega.{arith}
 use borrow.Author.Tests.{le-leb}
-use Rattle·path·specs.Model.{Model, Lists, modelAt, pathOf}
-use Rattle·path·specs.Refusal.{maxSize, maxWeight, inRange, follows, ordered}
-use Rattle·path·proofs.Order.{Within, within, Before, follows-before, last-in-range}
+use Rattle·path·specs.specs.Model.{Model, Lists, modelAt, pathOf}
+use Rattle·path·specs.specs.Refusal.{maxSize, maxWeight, inRange, follows, ordered}
+use Rattle·path·proofs.proofs.Order.{Within, within, Before, follows-before, last-in-range}
 
 -- What bounds the entries before a model.
 pub record Small (m : Model) : Type 0 where

@@ -14,7 +14,6 @@ use testing::search::in_range;
 use testing::text::print;
 
 // What came of some paths.
-#[derive(Drop)]
 struct Counts {
     faults: u64,
     refused: u64,

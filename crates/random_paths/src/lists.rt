@@ -17,7 +17,6 @@ use testing::search::cheapest;
 use testing::text::print;
 
 // What was compared.
-#[derive(Drop)]
 struct Totals {
     faults: u64,
     models: u64,

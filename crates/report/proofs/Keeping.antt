@@ -12,7 +12,7 @@ use Rattle·least.specs.Segmentation.{maxSegments}
 use Rattle·weights.specs.Weights.{allInRange}
 use Rattle·weights.specs.Inner.{folded}
 use Rattle·weights.proofs.Folds.{folded-few, folded-many, folded-onto}
-use Rattle·report·specs.Inner.{KeptFront, WeightKept}
+use Rattle·report·specs.specs.Inner.{KeptFront, WeightKept}
 
 -- Weights of which the last is out of range are cut to the first ones and a 0.
 out-cut : (c : ℕ) (ks ys : List ℕ) (w : ℕ) → length ks ≡ c → weightInRange w ≡ false → folded c (ks ++ (ys ++ (w ∷ []))) ≡ ks ++ (0 ∷ [])

@@ -19,15 +19,15 @@ use Rattle·weights.specs.Weights.{weightChecks, allInRange, rising, fitting}
 use Rattle·weights.specs.Inner.{folded}
 use Rattle·weights.proofs.Steps.{some-fit, weighs, sizes-weigh}
 use Rattle·weights.proofs.Folds.{folded-few, folded-checks}
-use Rattle·report·specs.Forms.{weights, formOf}
-use Rattle·report·specs.Lines.{refusalLine}
-use Rattle·report·specs.Report.{limited, Turn, goes, stops, formChecks, weightsTurn, printed}
-use Rattle·report·specs.Inner.{reportAt, lineOf, PathAhead, LineAhead, AheadRead, WeightsAre, WeightsTaken, WeightsFound, refusedWith}
-use Rattle·report·specs.declared.forms.FormFound.{FormFound}
-use Rattle·report·specs.declared.forms.Ahead.{Ahead}
-use Rattle·report·specs.declared.forms.Ahead.the-variants as ahead
-use Rattle·report·proofs.Layouts.{any-stops}
-use Rattle·report·proofs.Turns.{stopped}
+use Rattle·report·specs.specs.Forms.{weights, formOf}
+use Rattle·report·specs.specs.Lines.{refusalLine}
+use Rattle·report·specs.specs.Report.{limited, Turn, goes, stops, formChecks, weightsTurn, printed}
+use Rattle·report·specs.specs.Inner.{reportAt, lineOf, PathAhead, LineAhead, AheadRead, WeightsAre, WeightsTaken, WeightsFound, refusedWith}
+use Rattle·report·specs.specs.declared.forms.FormFound.{FormFound}
+use Rattle·report·specs.specs.declared.forms.Ahead.{Ahead}
+use Rattle·report·specs.specs.declared.forms.Ahead.the-variants as ahead
+use Rattle·report·proofs.proofs.Layouts.{any-stops}
+use Rattle·report·proofs.proofs.Turns.{stopped}
 
 -- What the answer on what comes next says.
 module _ (input : List ℕ) (at : ℕ) (r : Ahead) (h : AheadRead input at r) where

@@ -13,7 +13,6 @@ use testing::sample::starts_of;
 
 // What a call is given beside the samples: the limit, the least length of a segment, the weights and how many of them are lent, the
 // penalty p / q, and the number of places of each buffer.
-#[derive(Drop)]
 pub struct Arguments {
     pub limit: u64,
     pub min_segment_len: u64,

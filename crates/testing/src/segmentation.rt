@@ -12,7 +12,6 @@ use crate::number::times;
 use crate::search::put_path;
 
 // The number of segments, their loss, their starts, counted from 1, and their levels, with marks after these.
-#[derive(Drop)]
 pub struct Segmentation {
     pub count: u64,
     pub loss: u64,

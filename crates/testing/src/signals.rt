@@ -11,7 +11,6 @@ use crate::random::next;
 pub const KINDS: u64 = 12;
 
 // Samples of a kind are drawn from so many numbers, from the lowest on and each a step above the one before. They are raised.
-#[derive(Drop)]
 struct Kind {
     lowest: u64,
     step: u64,

@@ -11,7 +11,7 @@ use lib.IntN.{ℤ, pos, negsuc}
 use lib.ListN.{length, length-append}
 use lib.Signed.{mag}
 use borrow.Author.Tests.{lt-ltb, le-ltb, ltb-true, ltb-false}
-use Rattle·text·specs.Text.{digitsWithin, digits, wholeDigits}
+use Rattle·text·specs.specs.Text.{digitsWithin, digits, wholeDigits}
 
 -- A larger bound on the number of digits changes nothing.
 digits-any : (f g n : ℕ) → n < f → n < g → digitsWithin f n ≡ digitsWithin g n

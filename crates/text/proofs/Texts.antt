@@ -9,7 +9,7 @@ use lib.Signed.{mag}
 use Rattle·segment.specs.Inner.{raised}
 use Rattle·segment.proofs.Bounds.{fits-sample, raised-PN}
 use Rattle·segment.proofs.Integers.{P, N}
-use Rattle·text·specs.Text.{bytes, digits, wholeDigits, twoText}
+use Rattle·text·specs.specs.Text.{bytes, digits, wholeDigits, twoText}
 
 pub two-length : (a b : ℕ) → length (twoText a b) ≡ length (digits a) + (1 + length (digits b))
 unfolding twoText bytes

@@ -3,8 +3,8 @@
 ghost use mathlib.Core.List.{[], _∷_};
 ghost use Prim.Native.Nat.{_+_, _≤_};
 ghost use lib.ListN.{length};
-ghost use Rattle·text·specs.Text.{digits, wholeDigits, twoText};
-ghost use Rattle·text·specs.Inner.{Put};
+ghost use Rattle·text·specs.specs.Text.{digits, wholeDigits, twoText};
+ghost use Rattle·text·specs.specs.Inner.{Put};
 
 // Writes a text.
 pub fn put_text(output: &mut [u8], at: usize, text: &[u8]) -> usize

@@ -11,9 +11,9 @@ use lib.Seq.{length-take-le, drop-cons, append-snoc, split-at, take-at, drop-at,
 use borrow.Author.Tests.{le-leb, lt-leb, ne-eqb}
 use Rattle·path.specs.Refusal.{check, refusalOf, weightInRange}
 use Rattle·path.proofs.Cuts.{le-or-lt}
-use Rattle·weights·specs.Weights.{allInRange, fitting, weightChecks}
-use Rattle·weights·specs.Inner.{folded}
-use Rattle·weights·proofs.Steps.{some-fit}
+use Rattle·weights·specs.specs.Weights.{allInRange, fitting, weightChecks}
+use Rattle·weights·specs.specs.Inner.{folded}
+use Rattle·weights·proofs.proofs.Steps.{some-fit}
 
 and-assoc : (a b c : Bool) → ((a && b) && c) ≡ (a && (b && c))
 and-assoc true b c = refl

@@ -6,13 +6,13 @@ use Rattle·path.specs.Refusal.{refusalOf}
 use Rattle·path.specs.declared.PathResult.{PathResult}
 use Rattle·path.specs.Append.{pathOutcome}
 use Rattle·path.specs.Inner.{firstPlaces}
-use Rattle·build·specs.Build.{buildChecks, buildLeft}
-use Rattle·build·specs.Inner.{Fillable}
-use Rattle·build·proofs.Lists.{buildable}
-use Rattle·build·proofs.Cases.{build-refused, may-copy, may-fill-copied, build-done}
+use Rattle·build·specs.specs.Build.{buildChecks, buildLeft}
+use Rattle·build·specs.specs.Inner.{Fillable}
+use Rattle·build·proofs.proofs.Lists.{buildable}
+use Rattle·build·proofs.proofs.Cases.{build-refused, may-copy, may-fill-copied, build-done}
 use borrow.Author.Needs.{needs}
-use Rattle·build·proofs.build.Statement.{statement}
-use Rattle·build·proofs.build.Tie as tie
+use Rattle·build·proofs.proofs.build.Statement.{statement}
+use Rattle·build·proofs.proofs.build.Tie as tie
 
 -- The models, the buffers, and that the checks pass.
 abbrev given : tie.Start → Lists

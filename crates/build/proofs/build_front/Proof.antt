@@ -5,10 +5,10 @@ use Rattle·path.specs.Model.{Lists, lists}
 use Rattle·path.specs.Append.{pathLeft}
 use Rattle·path.specs.Inner.{firstPlaces}
 use Rattle·path.proofs.Held.{held-left}
-use Rattle·build·specs.Build.{built}
+use Rattle·build·specs.specs.Build.{built}
 use borrow.Author.Needs.{needs}
-use Rattle·build·proofs.build_front.Statement.{statement}
-use Rattle·build·proofs.build_front.Tie as tie
+use Rattle·build·proofs.proofs.build_front.Statement.{statement}
+use Rattle·build·proofs.proofs.build_front.Tie as tie
 
 returns : tie.Need-returns
 returns c =

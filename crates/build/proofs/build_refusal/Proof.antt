@@ -6,11 +6,11 @@ use lib.ListN.{length}
 use borrow.Author.Tests.{not-true, not-false}
 use Rattle·path.specs.Model.{lists}
 use Rattle·path.specs.Refusal.{refusalOf}
-use Rattle·build·specs.Build.{checksOf, buildChecks}
-use Rattle·build·proofs.Cases.{no-models, too-many, bad-list, no-room, all-pass}
+use Rattle·build·specs.specs.Build.{checksOf, buildChecks}
+use Rattle·build·proofs.proofs.Cases.{no-models, too-many, bad-list, no-room, all-pass}
 use borrow.Author.Needs.{needs}
-use Rattle·build·proofs.build_refusal.Statement.{statement}
-use Rattle·build·proofs.build_refusal.Tie as tie
+use Rattle·build·proofs.proofs.build_refusal.Statement.{statement}
+use Rattle·build·proofs.proofs.build_refusal.Tie as tie
 
 -- The refusal of a build of the largest number of models.
 counted : (c : tie.After-larger2) → refusalOf (checksOf (lists (c .before .before .before .before .before .args .sizes .now) (c .before .before .before .before .before .args .losses .now)

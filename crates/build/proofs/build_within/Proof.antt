@@ -6,11 +6,11 @@ use Rattle·path.specs.Model.{Lists, lists}
 use Rattle·path.specs.Refusal.{refusalOf}
 use Rattle·path.specs.declared.PathResult.{PathResult}
 use Rattle·path.specs.Append.{pathOutcome}
-use Rattle·build·specs.Build.{built, builtTests, buildChecks}
-use Rattle·build·proofs.Cases.{within-refused, may-fill-within, within-done}
+use Rattle·build·specs.specs.Build.{built, builtTests, buildChecks}
+use Rattle·build·proofs.proofs.Cases.{within-refused, may-fill-within, within-done}
 use borrow.Author.Needs.{needs}
-use Rattle·build·proofs.build_within.Statement.{statement}
-use Rattle·build·proofs.build_within.Tie as tie
+use Rattle·build·proofs.proofs.build_within.Statement.{statement}
+use Rattle·build·proofs.proofs.build_within.Tie as tie
 
 -- The models, the rooms, and that the checks pass.
 abbrev given : tie.Start → Lists

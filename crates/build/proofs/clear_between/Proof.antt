@@ -6,9 +6,9 @@ use lib.ListN.{length, replicate}
 use borrow.Author.Needs.{needs}
 use borrow.Rule.Slice.PartMut.{midOf, putMid, mid-len}
 use Rattle·path.specs.Model.{lists}
-use Rattle·build·specs.Inner.{clearedList}
-use Rattle·build·proofs.clear_between.Statement.{statement}
-use Rattle·build·proofs.clear_between.Tie as tie
+use Rattle·build·specs.specs.Inner.{clearedList}
+use Rattle·build·proofs.proofs.clear_between.Statement.{statement}
+use Rattle·build·proofs.proofs.clear_between.Tie as tie
 
 cleared : (k n : ℕ) (b part : List ℕ) → n ≤ length b → part ≡ replicate (length (midOf k (n - k) b)) 0 → putMid k (n - k) b part ≡ clearedList k n b
 cleared k n b part h e = ap (putMid k (n - k) b) (e ∙ ap (λ (m : ℕ). replicate m 0) (mid-len k n b h))

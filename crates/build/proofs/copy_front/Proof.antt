@@ -6,9 +6,9 @@ use native.Mathlib.Omega.{arith}
 use lib.ListN.{length}
 use lib.Seq.{take-all}
 use Rattle·path.specs.Buffer.{overwritten}
-use Rattle·build·proofs.Copies.{Fronted, fronted-none, fronted-more, fronted-all}
-use Rattle·build·proofs.copy_front.Statement.{statement}
-use Rattle·build·proofs.copy_front.Tie as tie
+use Rattle·build·proofs.proofs.Copies.{Fronted, fronted-none, fronted-more, fronted-all}
+use Rattle·build·proofs.proofs.copy_front.Statement.{statement}
+use Rattle·build·proofs.proofs.copy_front.Tie as tie
 
 abbrev Inv-loop : tie.InvT-loop
 Inv-loop from to₀ i₀ to i = (i ≤ length from) × Fronted from to₀ to i

@@ -1,8 +1,8 @@
 -- `build::copy_models` meets its contract: each list is copied.
 use Rattle·path.specs.Model.{lists}
 use borrow.Author.Needs.{needs}
-use Rattle·build·proofs.copy_models.Statement.{statement}
-use Rattle·build·proofs.copy_models.Tie as tie
+use Rattle·build·proofs.proofs.copy_models.Statement.{statement}
+use Rattle·build·proofs.proofs.copy_models.Tie as tie
 
 returns : tie.Need-returns
 returns c i =

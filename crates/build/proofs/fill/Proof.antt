@@ -11,11 +11,11 @@ use Rattle·path.specs.Inner.{keptOf, firstPlaces}
 use Rattle·path.proofs.Held.{setModel}
 use Rattle·path.specs.declared.Kept.{Kept}
 use Rattle·path.specs.declared.tally.Tally.{Tally}
-use Rattle·build·specs.Build.{built}
-use Rattle·build·specs.Inner.{BuiltIn}
-use Rattle·build·proofs.Steps.{built-none, may-try, kept-before, built-passed, built-pushed, still-model}
-use Rattle·build·proofs.fill.Statement.{statement}
-use Rattle·build·proofs.fill.Tie as tie
+use Rattle·build·specs.specs.Build.{built}
+use Rattle·build·specs.specs.Inner.{BuiltIn}
+use Rattle·build·proofs.proofs.Steps.{built-none, may-try, kept-before, built-passed, built-pushed, still-model}
+use Rattle·build·proofs.proofs.fill.Statement.{statement}
+use Rattle·build·proofs.proofs.fill.Tie as tie
 
 abbrev Inv-loop : tie.InvT-loop
 Inv-loop sizes₀ losses₀ weights₀ count entries₀ tests₀ i₀ sizes losses weights entries tests i =

@@ -10,10 +10,10 @@ use Rattle·path.specs.Update.{passedOver}
 use Rattle·path.specs.Refusal.{refusalOf, modelChecks}
 use Rattle·path.specs.Inner.{HasPlaces, PassesOver}
 use Rattle·path.proofs.Order.{places-parts, places-fewer, same-checks, same-passed-over}
-use Rattle·build·specs.Build.{built, checksAt, listChecks}
-use Rattle·build·proofs.Lists.{none-left, bad-model, good-model, lacks-value, lacks-nothing, LastEntered, none-entered, entered-before, entered-now}
-use Rattle·build·proofs.list_refusal.Statement.{statement}
-use Rattle·build·proofs.list_refusal.Tie as tie
+use Rattle·build·specs.specs.Build.{built, checksAt, listChecks}
+use Rattle·build·proofs.proofs.Lists.{none-left, bad-model, good-model, lacks-value, lacks-nothing, LastEntered, none-entered, entered-before, entered-now}
+use Rattle·build·proofs.proofs.list_refusal.Statement.{statement}
+use Rattle·build·proofs.proofs.list_refusal.Tie as tie
 
 -- Whether model i is passed over goes by the last of the models entered.
 judged : (t : Lists) (i j : ℕ) → LastEntered t i j → (r : Bool) → PassesOver (t .losses) j (modelAt t i .loss) r → passedOver (built t i) (modelAt t i) ≡ r

@@ -7,10 +7,10 @@ use Rattle·coding.proofs.Models.{models-held}
 use Rattle·coding.proofs.Calls.{eleven, whole-strings}
 use Rattle·path.specs.Model.{Lists, model, lists}
 use Rattle·path.specs.declared.PathResult.{PathResult}
-use Rattle·byte_paths·specs.Paths.{pathAnswers, appendCall}
+use Rattle·byte_paths·specs.specs.Paths.{pathAnswers, appendCall}
 use borrow.Author.Needs.{needs}
-use Rattle·byte_paths·proofs.append.Statement.{statement}
-use Rattle·byte_paths·proofs.append.Tie as tie
+use Rattle·byte_paths·proofs.proofs.append.Statement.{statement}
+use Rattle·byte_paths·proofs.proofs.append.Tie as tie
 
 abbrev lent : tie.Start → Lists
 lent s = lists (s .args .sizes .now) (s .args .losses .now) (s .args .weights .now)

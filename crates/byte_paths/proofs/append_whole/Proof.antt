@@ -20,11 +20,11 @@ use Rattle·path.specs.Update.{kept, testsMade, passedOver}
 use Rattle·path.specs.Inner.{HasPlaces, keptOf}
 use Rattle·path.proofs.Order.{Acceptable, acceptable, scannable, room-places}
 use Rattle·path.proofs.Cases.{input-refused, passes-over, kept-small, room-refused, accepted}
-use Rattle·byte_paths·specs.Paths.{pathAnswers, pathTold, appendCall}
-use Rattle·byte_paths·proofs.Rooms.{room-numbers}
+use Rattle·byte_paths·specs.specs.Paths.{pathAnswers, pathTold, appendCall}
+use Rattle·byte_paths·proofs.proofs.Rooms.{room-numbers}
 use borrow.Author.Needs.{needs}
-use Rattle·byte_paths·proofs.append_whole.Statement.{statement}
-use Rattle·byte_paths·proofs.append_whole.Tie as tie
+use Rattle·byte_paths·proofs.proofs.append_whole.Statement.{statement}
+use Rattle·byte_paths·proofs.proofs.append_whole.Tie as tie
 
 -- The places of the code, each from the next one.
 abbrev at-start : tie.After-input-refusal → tie.Start

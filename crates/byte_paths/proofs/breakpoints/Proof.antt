@@ -9,10 +9,10 @@ use Rattle·coding.proofs.Models.{models-held}
 use Rattle·coding.proofs.Calls.{eleven, whole-strings}
 use Rattle·path.specs.Model.{Lists, lists}
 use Rattle·select.specs.declared.BreakpointsResult.{BreakpointsResult}
-use Rattle·byte_paths·specs.Paths.{Fractions, fractions, fractionsCoding, breakpointsAnswers, breakpointsCall}
+use Rattle·byte_paths·specs.specs.Paths.{Fractions, fractions, fractionsCoding, breakpointsAnswers, breakpointsCall}
 use borrow.Author.Needs.{needs}
-use Rattle·byte_paths·proofs.breakpoints.Statement.{statement}
-use Rattle·byte_paths·proofs.breakpoints.Tie as tie
+use Rattle·byte_paths·proofs.proofs.breakpoints.Statement.{statement}
+use Rattle·byte_paths·proofs.proofs.breakpoints.Tie as tie
 
 -- The five remainders that the code adds up, as those of the path and those of the buffers.
 none-over : (a b c d e : ℕ) → a + b + c + d + e ≡ 0 → a + (b + c) + (d + e) ≡ 0

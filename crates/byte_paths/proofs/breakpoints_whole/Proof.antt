@@ -13,10 +13,10 @@ use Rattle·path.specs.Refusal.{check, refusalOf, roomFor}
 use Rattle·select.specs.Breakpoints.{breakpointsChecks}
 use Rattle·select.specs.declared.BreakpointsResult.{BreakpointsResult}
 use Rattle·select.proofs.Listings.{listing-checks, breakpoints-refused, listable, breakpoints-done}
-use Rattle·byte_paths·specs.Paths.{Fractions, fractions, fractionsCoding, breakpointsAnswers, breakpointsTold, breakpointsCall}
+use Rattle·byte_paths·specs.specs.Paths.{Fractions, fractions, fractionsCoding, breakpointsAnswers, breakpointsTold, breakpointsCall}
 use borrow.Author.Needs.{needs}
-use Rattle·byte_paths·proofs.breakpoints_whole.Statement.{statement}
-use Rattle·byte_paths·proofs.breakpoints_whole.Tie as tie
+use Rattle·byte_paths·proofs.proofs.breakpoints_whole.Statement.{statement}
+use Rattle·byte_paths·proofs.proofs.breakpoints_whole.Tie as tie
 
 -- The start, from the place where the refusal is known.
 abbrev at-start : tie.After-breakpoints-refusal → tie.Start

@@ -9,11 +9,11 @@ use Rattle·coding.proofs.Models.{models-held, fronts-fit}
 use Rattle·coding.proofs.Calls.{eleven}
 use Rattle·path.specs.Model.{Lists, lists}
 use Rattle·path.specs.declared.PathResult.{PathResult}
-use Rattle·byte_paths·specs.Paths.{pathAnswers, buildCall}
-use Rattle·byte_paths·specs.Inner.{modelsRead}
+use Rattle·byte_paths·specs.specs.Paths.{pathAnswers, buildCall}
+use Rattle·byte_paths·specs.specs.Inner.{modelsRead}
 use borrow.Author.Needs.{needs}
-use Rattle·byte_paths·proofs.build_by.Statement.{statement}
-use Rattle·byte_paths·proofs.build_by.Tie as tie
+use Rattle·byte_paths·proofs.proofs.build_by.Statement.{statement}
+use Rattle·byte_paths·proofs.proofs.build_by.Tie as tie
 
 -- The six remainders that the code adds up, as those of the models and those of the path.
 none-over : (a b c d e f : ℕ) → a + b + c + d + e + f ≡ 0 → a + (b + c) + (d + (e + f)) ≡ 0

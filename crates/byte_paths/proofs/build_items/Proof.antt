@@ -10,12 +10,12 @@ use Rattle·path.specs.Append.{pathOutcome}
 use Rattle·path.specs.Inner.{firstPlaces}
 use Rattle·build.specs.Build.{countOf}
 use Rattle·quadratic.specs.Inner.{withinBy}
-use Rattle·byte_paths·specs.Paths.{pathAnswers, buildCall}
-use Rattle·byte_paths·specs.Inner.{modelsRead}
-use Rattle·byte_paths·proofs.PathCuts.{build-read, build-refused, build-accepted, build-fits}
+use Rattle·byte_paths·specs.specs.Paths.{pathAnswers, buildCall}
+use Rattle·byte_paths·specs.specs.Inner.{modelsRead}
+use Rattle·byte_paths·proofs.proofs.PathCuts.{build-read, build-refused, build-accepted, build-fits}
 use borrow.Author.Needs.{needs}
-use Rattle·byte_paths·proofs.build_items.Statement.{statement}
-use Rattle·byte_paths·proofs.build_items.Tie as tie
+use Rattle·byte_paths·proofs.proofs.build_items.Statement.{statement}
+use Rattle·byte_paths·proofs.proofs.build_items.Tie as tie
 
 -- The places of the code after each call, each from the next one.
 abbrev at-read : tie.After-build-within → tie.After-read-models

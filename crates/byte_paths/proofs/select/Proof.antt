@@ -12,10 +12,10 @@ use Rattle·path.proofs.Order.{valid-parts, places-fewer}
 use Rattle·select.specs.Select.{selectChecks, entryIs, selectOf}
 use Rattle·select.specs.declared.SelectResult.{SelectResult}
 use Rattle·select.proofs.Walks.{walkable, Selectable, selectable, selected-within, selecting-checks, select-refused, select-done}
-use Rattle·byte_paths·specs.Paths.{selectAnswers, selectCall, selectBytesOf}
+use Rattle·byte_paths·specs.specs.Paths.{selectAnswers, selectCall, selectBytesOf}
 use borrow.Author.Needs.{needs}
-use Rattle·byte_paths·proofs.select.Statement.{statement}
-use Rattle·byte_paths·proofs.select.Tie as tie
+use Rattle·byte_paths·proofs.proofs.select.Statement.{statement}
+use Rattle·byte_paths·proofs.proofs.select.Tie as tie
 
 -- The start, from the place where the refusal is known.
 abbrev at-start : tie.After-select-refusal → tie.Start

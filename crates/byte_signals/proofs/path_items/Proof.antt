@@ -4,11 +4,11 @@ use Rattle·coding.proofs.Models.{models-held, models-fit, models-hold}
 use Rattle·coding.proofs.Calls.{returned}
 use Rattle·path.specs.Model.{lists}
 use Rattle·signal.specs.SignalPath.{pathBuffers}
-use Rattle·byte_signals·specs.Signals.{signalStrings, signalNumbers, signalPathAnswers, signalPathTold, signalPathCall}
-use Rattle·byte_signals·proofs.SignalPaths.{signalCut, pathCut, signal-path-cut}
+use Rattle·byte_signals·specs.specs.Signals.{signalStrings, signalNumbers, signalPathAnswers, signalPathTold, signalPathCall}
+use Rattle·byte_signals·proofs.proofs.SignalPaths.{signalCut, pathCut, signal-path-cut}
 use borrow.Author.Needs.{needs}
-use Rattle·byte_signals·proofs.path_items.Statement.{statement}
-use Rattle·byte_signals·proofs.path_items.Tie as tie
+use Rattle·byte_signals·proofs.proofs.path_items.Statement.{statement}
+use Rattle·byte_signals·proofs.proofs.path_items.Tie as tie
 
 read-weights-requires : tie.Need-read-weights-requires
 read-weights-requires c κs =

@@ -7,10 +7,10 @@ use native.Mathlib.Omega.{arith}
 use lib.ListN.{length, set}
 use borrow.Author.Tests.{not-true, not-false}
 use Rattle·least.specs.Segmentation.{maxSegments}
-use Rattle·byte_signals·proofs.WeightCuts.{few-kept, all-kept, last-spoilt}
+use Rattle·byte_signals·proofs.proofs.WeightCuts.{few-kept, all-kept, last-spoilt}
 use borrow.Author.Needs.{needs}
-use Rattle·byte_signals·proofs.read_weights.Statement.{statement}
-use Rattle·byte_signals·proofs.read_weights.Tie as tie
+use Rattle·byte_signals·proofs.proofs.read_weights.Statement.{statement}
+use Rattle·byte_signals·proofs.proofs.read_weights.Tie as tie
 
 read-items-requires : tie.Need-read-items-requires
 read-items-requires c κs = (omega arith, omega (arith, c .before .before .before .pre))

@@ -11,9 +11,9 @@ use Rattle·layout.specs.Items.{itemsOf}
 use Rattle·path.specs.Refusal.{weightInRange}
 use Rattle·least.specs.Segmentation.{maxSegments}
 use Rattle·weights.specs.Weights.{allInRange}
-use Rattle·byte_signals·proofs.WeightCuts.{rest-turn, rest-end}
-use Rattle·byte_signals·proofs.rest_in_range.Statement.{statement}
-use Rattle·byte_signals·proofs.rest_in_range.Tie as tie
+use Rattle·byte_signals·proofs.proofs.WeightCuts.{rest-turn, rest-end}
+use Rattle·byte_signals·proofs.proofs.rest_in_range.Statement.{statement}
+use Rattle·byte_signals·proofs.proofs.rest_in_range.Tie as tie
 
 abbrev Inv-loop : tie.InvT-loop
 Inv-loop weights count i₀ i = (count ≡ length weights / 2) × (allInRange (drop i (itemsOf 2 weights)) ≡ allInRange (drop maxSegments (itemsOf 2 weights)))

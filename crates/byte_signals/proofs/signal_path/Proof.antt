@@ -9,11 +9,11 @@ use Rattle·coding.proofs.Models.{models-held, fronts-fit}
 use Rattle·coding.proofs.Calls.{eleven}
 use Rattle·path.specs.Model.{Lists, lists}
 use Rattle·signal.specs.SignalPath.{PathBuffers, pathBuffers}
-use Rattle·byte_signals·specs.Signals.{SignalStrings, signalStrings, signalCoding, pathCoding, signalPathAnswers, signalPathCall}
-use Rattle·byte_signals·specs.Inner.{readSamples, readWeights}
+use Rattle·byte_signals·specs.specs.Signals.{SignalStrings, signalStrings, signalCoding, pathCoding, signalPathAnswers, signalPathCall}
+use Rattle·byte_signals·specs.specs.Inner.{readSamples, readWeights}
 use borrow.Author.Needs.{needs}
-use Rattle·byte_signals·proofs.signal_path.Statement.{statement}
-use Rattle·byte_signals·proofs.signal_path.Tie as tie
+use Rattle·byte_signals·proofs.proofs.signal_path.Statement.{statement}
+use Rattle·byte_signals·proofs.proofs.signal_path.Tie as tie
 
 abbrev input : tie.Start → SignalStrings
 input s = signalStrings (s .args .samples .now) (s .args .weights .now)

@@ -8,11 +8,11 @@ use Rattle·coding.proofs.Strings.{bytes-held, front-length, front-fits}
 use Rattle·coding.proofs.Models.{models-held, fronts-fit}
 use Rattle·coding.proofs.Calls.{eleven}
 use Rattle·path.specs.Model.{Lists, lists}
-use Rattle·byte_signals·specs.Signals.{SignalStrings, signalStrings, signalCoding, SplitStrings, splitStrings, splitCoding, splitAnswers, splitCall}
-use Rattle·byte_signals·specs.Inner.{readSamples, readWeights}
+use Rattle·byte_signals·specs.specs.Signals.{SignalStrings, signalStrings, signalCoding, SplitStrings, splitStrings, splitCoding, splitAnswers, splitCall}
+use Rattle·byte_signals·specs.specs.Inner.{readSamples, readWeights}
 use borrow.Author.Needs.{needs}
-use Rattle·byte_signals·proofs.split.Statement.{statement}
-use Rattle·byte_signals·proofs.split.Tie as tie
+use Rattle·byte_signals·proofs.proofs.split.Statement.{statement}
+use Rattle·byte_signals·proofs.proofs.split.Tie as tie
 
 -- The seven remainders that the code adds up, as those of what is read and those of the buffers.
 none-over : (a b c d e f g : ℕ) → a + b + c + d + e + f + g ≡ 0 → a + b + (c + (d + (e + (f + g) + 0))) ≡ 0

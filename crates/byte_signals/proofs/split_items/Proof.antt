@@ -6,12 +6,12 @@ use Rattle·coding.proofs.Models.{models-held, models-fit, models-hold}
 use Rattle·coding.proofs.Calls.{returned}
 use Rattle·path.specs.Model.{lists}
 use Rattle·signal.specs.Split.{splitBuffers}
-use Rattle·byte_signals·specs.Signals.{signalStrings, signalNumbers, splitStrings, splitAnswers, splitTold, splitCall}
-use Rattle·byte_signals·proofs.SignalPaths.{signalCut}
-use Rattle·byte_signals·proofs.Splits.{splitCut, split-cut}
+use Rattle·byte_signals·specs.specs.Signals.{signalStrings, signalNumbers, splitStrings, splitAnswers, splitTold, splitCall}
+use Rattle·byte_signals·proofs.proofs.SignalPaths.{signalCut}
+use Rattle·byte_signals·proofs.proofs.Splits.{splitCut, split-cut}
 use borrow.Author.Needs.{needs}
-use Rattle·byte_signals·proofs.split_items.Statement.{statement}
-use Rattle·byte_signals·proofs.split_items.Tie as tie
+use Rattle·byte_signals·proofs.proofs.split_items.Statement.{statement}
+use Rattle·byte_signals·proofs.proofs.split_items.Tie as tie
 
 read-i16s-requires : tie.Need-read-i16s-requires
 read-i16s-requires c κs = omega (arith, c .before .before .before .before .before .before .before .before .before .before .before .before .before .before .pre .input .samples-fit)

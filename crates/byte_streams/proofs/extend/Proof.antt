@@ -15,10 +15,10 @@ use Rattle·segment.proofs.Bounds.{fits-sample}
 use Rattle·stream.specs.Table.{maxRows}
 use Rattle·stream.specs.Extend.{StreamBuffers, streamBuffers}
 use Rattle·byte_signals.specs.Inner.{readSamples}
-use Rattle·byte_streams·specs.Streams.{streamCoding, extendAnswers, extendCall, extendBytesOf}
+use Rattle·byte_streams·specs.specs.Streams.{streamCoding, extendAnswers, extendCall, extendBytesOf}
 use borrow.Author.Needs.{needs}
-use Rattle·byte_streams·proofs.extend.Statement.{statement}
-use Rattle·byte_streams·proofs.extend.Tie as tie
+use Rattle·byte_streams·proofs.proofs.extend.Statement.{statement}
+use Rattle·byte_streams·proofs.proofs.extend.Tie as tie
 
 abbrev strings : tie.Start → Lists
 strings s = lists (s .args .path-sizes .now) (s .args .path-losses .now) (s .args .path-weights .now)

@@ -7,11 +7,11 @@ use Rattle·coding.proofs.Calls.{returned}
 use Rattle·path.specs.Model.{lists}
 use Rattle·stream.specs.Extend.{streamBuffers}
 use Rattle·byte_signals.proofs.SignalPaths.{samplesCut}
-use Rattle·byte_streams·specs.Streams.{extendAnswers, extendTold, extendCall}
-use Rattle·byte_streams·proofs.StreamCuts.{streamCut, extend-cut}
+use Rattle·byte_streams·specs.specs.Streams.{extendAnswers, extendTold, extendCall}
+use Rattle·byte_streams·proofs.proofs.StreamCuts.{streamCut, extend-cut}
 use borrow.Author.Needs.{needs}
-use Rattle·byte_streams·proofs.extend_items.Statement.{statement}
-use Rattle·byte_streams·proofs.extend_items.Tie as tie
+use Rattle·byte_streams·proofs.proofs.extend_items.Statement.{statement}
+use Rattle·byte_streams·proofs.proofs.extend_items.Tie as tie
 
 read-models-requires : tie.Need-read-models-requires
 read-models-requires c κs =

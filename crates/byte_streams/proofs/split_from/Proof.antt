@@ -8,10 +8,10 @@ use Rattle·coding.proofs.Strings.{bytes-held, front-length, front-fits}
 use Rattle·coding.proofs.Calls.{eleven}
 use Rattle·stream.specs.Table.{maxRows}
 use Rattle·byte_signals.specs.Inner.{readSamples}
-use Rattle·byte_streams·specs.Streams.{SegmentStrings, segmentStrings, segmentsCoding, splitFromAnswers, splitFromCall}
+use Rattle·byte_streams·specs.specs.Streams.{SegmentStrings, segmentStrings, segmentsCoding, splitFromAnswers, splitFromCall}
 use borrow.Author.Needs.{needs}
-use Rattle·byte_streams·proofs.split_from.Statement.{statement}
-use Rattle·byte_streams·proofs.split_from.Tie as tie
+use Rattle·byte_streams·proofs.proofs.split_from.Statement.{statement}
+use Rattle·byte_streams·proofs.proofs.split_from.Tie as tie
 
 abbrev lent : tie.Start → SegmentStrings
 lent s = segmentStrings (s .args .starts .now) (s .args .levels .now)

@@ -4,11 +4,11 @@ use Rattle·coding.proofs.Strings.{bytes-held}
 use Rattle·coding.proofs.Calls.{returned}
 use Rattle·stream.specs.SplitFrom.{segmentBuffers}
 use Rattle·byte_signals.proofs.SignalPaths.{samplesCut}
-use Rattle·byte_streams·specs.Streams.{segmentStrings, splitFromAnswers, splitFromTold, splitFromCall}
-use Rattle·byte_streams·proofs.StreamCuts.{segmentsCut, split-from-cut}
+use Rattle·byte_streams·specs.specs.Streams.{segmentStrings, splitFromAnswers, splitFromTold, splitFromCall}
+use Rattle·byte_streams·proofs.proofs.StreamCuts.{segmentsCut, split-from-cut}
 use borrow.Author.Needs.{needs}
-use Rattle·byte_streams·proofs.split_from_items.Statement.{statement}
-use Rattle·byte_streams·proofs.split_from_items.Tie as tie
+use Rattle·byte_streams·proofs.proofs.split_from_items.Statement.{statement}
+use Rattle·byte_streams·proofs.proofs.split_from_items.Tie as tie
 
 -- The places of the code after each call, each from the next one.
 abbrev at-written : tie.After-slice-known7 → tie.After-encode-segments

@@ -4,9 +4,9 @@ use mathlib.Core.List.{List}
 use Prim.Native.Nat.{ℕ, suc, _+_, _-_}
 use native.Mathlib.Numerals.{add-one}
 use native.Mathlib.Omega.{arith}
-use Rattle·coding·proofs.Stores.{Clearing, clear-start, clear-inside, clear-more, clear-end}
-use Rattle·coding·proofs.clear_items.Statement.{statement}
-use Rattle·coding·proofs.clear_items.Tie as tie
+use Rattle·coding·proofs.proofs.Stores.{Clearing, clear-start, clear-inside, clear-more, clear-end}
+use Rattle·coding·proofs.proofs.clear_items.Statement.{statement}
+use Rattle·coding·proofs.proofs.clear_items.Tie as tie
 
 abbrev Inv-loop : tie.InvT-loop
 Inv-loop bytes₀ width from n i₀ at₀ bytes i at = Clearing width bytes₀ bytes from n i at

@@ -6,11 +6,11 @@ use native.Mathlib.Omega.{arith}
 use lib.ListN.{length}
 use Rattle·layout.specs.Items.{Bytes}
 use Rattle·layout.proofs.ItemLists.{length-items}
-use Rattle·coding·proofs.Strings.{bytes-held}
-use Rattle·coding·proofs.Stores.{store-inside, stored}
+use Rattle·coding·proofs.proofs.Strings.{bytes-held}
+use Rattle·coding·proofs.proofs.Stores.{store-inside, stored}
 use borrow.Author.Needs.{needs}
-use Rattle·coding·proofs.store_item.Statement.{statement}
-use Rattle·coding·proofs.store_item.Tie as tie
+use Rattle·coding·proofs.proofs.store_item.Statement.{statement}
+use Rattle·coding·proofs.proofs.store_item.Tie as tie
 
 held : (c : tie.After-slice-known) → Bytes (c .before .args .bytes .now)
 held c = bytes-held (c .before .args .bytes .now) (c .slice-known .given)

@@ -9,7 +9,6 @@ use testing::list::within;
 use testing::text::print;
 
 // The number of places of three buffers: of sizes, losses and weights.
-#[derive(Drop)]
 pub struct Rooms {
     pub sizes: usize,
     pub losses: usize,

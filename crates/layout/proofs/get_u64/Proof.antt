@@ -2,10 +2,10 @@
 use mathlib.Core.Path.{_≡_}
 use Prim.Native.Nat.{suc, _+_}
 use native.Mathlib.Omega.{arith}
-use Rattle·layout·specs.Item.{item}
+use Rattle·layout·specs.specs.Item.{item}
 use borrow.Author.Needs.{needs}
-use Rattle·layout·proofs.get_u64.Statement.{statement}
-use Rattle·layout·proofs.get_u64.Tie as tie
+use Rattle·layout·proofs.proofs.get_u64.Statement.{statement}
+use Rattle·layout·proofs.proofs.get_u64.Tie as tie
 
 get-u16-requires : tie.Need-get-u16-requires
 get-u16-requires c κs = search needs

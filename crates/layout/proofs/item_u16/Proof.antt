@@ -3,10 +3,10 @@ use mathlib.Core.Path.{sym, _∙_}
 use Prim.Native.Nat.{_/_}
 use native.Mathlib.Omega.{arith}
 use lib.ListN.{length}
-use Rattle·layout·proofs.ItemLists.{length-items, item-at}
+use Rattle·layout·proofs.proofs.ItemLists.{length-items, item-at}
 use borrow.Author.Needs.{needs}
-use Rattle·layout·proofs.item_u16.Statement.{statement}
-use Rattle·layout·proofs.item_u16.Tie as tie
+use Rattle·layout·proofs.proofs.item_u16.Statement.{statement}
+use Rattle·layout·proofs.proofs.item_u16.Tie as tie
 
 mul-get-u16 : tie.Need-mul-get-u16
 mul-get-u16 c =

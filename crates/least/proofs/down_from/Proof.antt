@@ -2,10 +2,10 @@
 -- before low gains as much. Each turn takes or keeps, or ends the search where no start before i is left. The measure is i.
 use Prim.Native.Nat.{suc}
 use native.Mathlib.Omega.{arith}
-use Rattle·least·proofs.Counts.{one-each}
-use Rattle·least·proofs.Search.{sum-low, Down, down-start, down-end, down-left, down-low, down-next, scan-take, scan-keep}
-use Rattle·least·proofs.down_from.Statement.{statement}
-use Rattle·least·proofs.down_from.Tie as tie
+use Rattle·least·proofs.proofs.Counts.{one-each}
+use Rattle·least·proofs.proofs.Search.{sum-low, Down, down-start, down-end, down-left, down-low, down-next, scan-take, scan-keep}
+use Rattle·least·proofs.proofs.down_from.Statement.{statement}
+use Rattle·least·proofs.proofs.down_from.Tie as tie
 
 abbrev Inv-loop : tie.InvT-loop
 Inv-loop samples sums recips squares old floors row d m to own from base low₀ i₀ tail₀ start₀ best₀ low i tail start best = Down samples d m to base low i tail start best

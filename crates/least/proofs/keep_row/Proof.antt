@@ -10,11 +10,11 @@ use borrow.Author.Needs.{needs}
 use lib.IntN.{ℤ}
 use lib.ListN.{length, getD, set, length-set}
 use lib.Seq.{getD-set-same, getD-set-other}
-use Rattle·least·specs.Segmentation.{least}
-use Rattle·least·specs.Inner.{KeepFrom, Kept}
-use Rattle·least·proofs.Counts.{one-each}
-use Rattle·least·proofs.keep_row.Statement.{statement}
-use Rattle·least·proofs.keep_row.Tie as tie
+use Rattle·least·specs.specs.Segmentation.{least}
+use Rattle·least·specs.specs.Inner.{KeepFrom, Kept}
+use Rattle·least·proofs.proofs.Counts.{one-each}
+use Rattle·least·proofs.proofs.keep_row.Statement.{statement}
+use Rattle·least·proofs.proofs.keep_row.Tie as tie
 
 -- The cells past i are kept.
 record Made (xs : List ℤ) (d m : ℕ) (row old₀ old floors₀ floors : List ℕ) (i floor : ℕ) : Type 0 where

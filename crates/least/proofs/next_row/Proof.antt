@@ -13,11 +13,11 @@ use Rattle·layout.specs.Item.{item, setItem}
 use Rattle·layout.proofs.Laws.{length-setItem, byte-kept, item-same, item-other}
 use Rattle·segment.specs.Segment.{maxSamples}
 use Rattle·segment.proofs.Cells.{cell-more}
-use Rattle·least·specs.Segmentation.{lastStart, least}
-use Rattle·least·specs.Inner.{startPlace, GainOf, Limited, SearchFrom, PickFrom, Picked, Found, NextFrom, NextRow}
-use Rattle·least·proofs.LeastLosses.{lastStart-bounds}
-use Rattle·least·proofs.next_row.Statement.{statement}
-use Rattle·least·proofs.next_row.Tie as tie
+use Rattle·least·specs.specs.Segmentation.{lastStart, least}
+use Rattle·least·specs.specs.Inner.{startPlace, GainOf, Limited, SearchFrom, PickFrom, Picked, Found, NextFrom, NextRow}
+use Rattle·least·proofs.proofs.LeastLosses.{lastStart-bounds}
+use Rattle·least·proofs.proofs.next_row.Statement.{statement}
+use Rattle·least·proofs.proofs.next_row.Tie as tie
 
 -- The cells and the starts up to j are of the new row.
 record Rows (xs : List ℤ) (d m j s right : ℕ) (row₀ row before scratch : List ℕ) : Type 0 where

@@ -5,11 +5,11 @@ use native.Mathlib.Omega.{arith}
 use borrow.Author.Needs.{needs}
 use borrow.Author.Tests.{eqb-true}
 use lib.ListN.{getD}
-use Rattle·least·specs.Inner.{StartAt}
-use Rattle·least·proofs.Counts.{one-each}
-use Rattle·least·proofs.Search.{sum-is, sum-low, none-lost}
-use Rattle·least·proofs.pick_start.Statement.{statement}
-use Rattle·least·proofs.pick_start.Tie as tie
+use Rattle·least·specs.specs.Inner.{StartAt}
+use Rattle·least·proofs.proofs.Counts.{one-each}
+use Rattle·least·proofs.proofs.Search.{sum-is, sum-low, none-lost}
+use Rattle·least·proofs.proofs.pick_start.Statement.{statement}
+use Rattle·least·proofs.proofs.pick_start.Tie as tie
 
 -- The start at hand, with the gain of its segment.
 at-hand : (c : tie.After-segment-gain) → (let start = c .before .before .before .before .before .before .before in StartAt (start .args .samples .now) (start .args .min-segment-len) (start .args .m) (start .args .to) (start .args .s) (c .segment-gain .result))

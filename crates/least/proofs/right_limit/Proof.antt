@@ -1,10 +1,10 @@
 -- `least::right_limit` meets its contract. The invariant: the limit lies within the bounds. The measure is what is left up to the end.
 use Prim.Native.Nat.{_-_}
 use native.Mathlib.Omega.{arith}
-use Rattle·least·specs.Inner.{Limited}
-use Rattle·least·proofs.Search.{limit-next, limit-stop, limit-end}
-use Rattle·least·proofs.right_limit.Statement.{statement}
-use Rattle·least·proofs.right_limit.Tie as tie
+use Rattle·least·specs.specs.Inner.{Limited}
+use Rattle·least·proofs.proofs.Search.{limit-next, limit-stop, limit-end}
+use Rattle·least·proofs.proofs.right_limit.Statement.{statement}
+use Rattle·least·proofs.proofs.right_limit.Tie as tie
 
 abbrev Inv-loop : tie.InvT-loop
 Inv-loop samples floors d m to lost from right₀ right = Limited d m to right

@@ -3,9 +3,9 @@
 use Prim.Native.Nat.{_+_, _-_}
 use native.Mathlib.Omega.{arith}
 use lib.ListN.{getD}
-use Rattle·least·proofs.Search.{sum-low, Right, right-start, right-end, right-next, right-take, right-left, right-more}
-use Rattle·least·proofs.seed_from.Statement.{statement}
-use Rattle·least·proofs.seed_from.Tie as tie
+use Rattle·least·proofs.proofs.Search.{sum-low, Right, right-start, right-end, right-next, right-take, right-left, right-more}
+use Rattle·least·proofs.proofs.seed_from.Statement.{statement}
+use Rattle·least·proofs.proofs.seed_from.Tie as tie
 
 abbrev Inv-loop : tie.InvT-loop
 Inv-loop samples sums recips squares old floors row d m to s own right bound low₀ i₀ low i = Right samples d m to (getD old s 0 + own) s low i

@@ -2,9 +2,9 @@
 use mathlib.Core.Path.{sym, _∙_}
 use borrow.Author.Tests.{not-true, not-false}
 use borrow.Author.Needs.{needs}
-use Rattle·models·proofs.Appends.{answer-refused, answer-over, answer-nine, answer-put}
-use Rattle·models·proofs.answer_of.Statement.{statement}
-use Rattle·models·proofs.answer_of.Tie as tie
+use Rattle·models·proofs.proofs.Appends.{answer-refused, answer-over, answer-nine, answer-put}
+use Rattle·models·proofs.proofs.answer_of.Statement.{statement}
+use Rattle·models·proofs.proofs.answer_of.Tie as tie
 
 refuse-requires : tie.Need-refuse-requires
 refuse-requires c κs = search needs

@@ -41,15 +41,15 @@ use denote.Steps.{nothing, owned}
 use denote.Triple.Spec.{Meets, tripleOf}
 use denote.Triple.Table.{entered}
 use denote.Triple.Walked.{says, Stays, stay-none, stay-none-slice, walkOf, Walks, ends-at, walked, goes-none, goes-none-slice, walk-meets}
-use Rattle·models·specs.Inner.{noEntry}
-use Rattle·models·specs.declared.Entry.{Entry}
-use Rattle·models·specs.contracts.Entry as T
-use Rattle·models·proofs.Entry.the-laws as T′
-use Rattle·models·specs.contracts.entry_at.Key.{name as #models·entry-at}
-use Rattle·models·specs.contracts.entry_at as call
-use Rattle·models·proofs.entry_at.Statement as stated
-use Rattle·models·proofs.entry_at.Code as code
-use Rattle·models·proofs.entry_at.Code.Mir as pieces
+use Rattle·models·specs.specs.Inner.{noEntry}
+use Rattle·models·specs.specs.declared.Entry.{Entry}
+use Rattle·models·proofs.proofs.Entry as T
+use Rattle·models·proofs.proofs.Entry.Laws as T′
+use Rattle·models·proofs.proofs.entry_at.Key.{name as #models·entry-at}
+use Rattle·models·proofs.proofs.entry_at as call
+use Rattle·models·proofs.proofs.entry_at.Statement as stated
+use Rattle·models·proofs.proofs.entry_at.Code as code
+use Rattle·models·proofs.proofs.entry_at.Code.Mir as pieces
 
 abbrev R : RattleType
 R = T.the-row

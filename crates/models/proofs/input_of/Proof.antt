@@ -2,9 +2,9 @@
 use borrow.Author.Tests.{not-true, not-false}
 use borrow.Author.Needs.{needs}
 use Rattle·path.specs.Model.{model}
-use Rattle·models·proofs.Appends.{input-eight, input-refused, input-first, input-over, input-tried}
-use Rattle·models·proofs.input_of.Statement.{statement}
-use Rattle·models·proofs.input_of.Tie as tie
+use Rattle·models·proofs.proofs.Appends.{input-eight, input-refused, input-first, input-over, input-tried}
+use Rattle·models·proofs.proofs.input_of.Statement.{statement}
+use Rattle·models·proofs.proofs.input_of.Tie as tie
 
 none-requires : tie.Need-none-requires
 none-requires c κs = search needs

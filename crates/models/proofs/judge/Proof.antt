@@ -45,51 +45,51 @@ use Rattle·path.specs.Refusal.{validPath}
 use Rattle·path.specs.Inner.{KeepsOf}
 use Rattle·path.specs.declared.Kept.{Kept}
 use Rattle·path.specs.declared.tally.Tally.{Tally}
-use Rattle·path.specs.contracts.tally.Tally as Tl
-use Rattle·path.proofs.tally.Tally.the-laws as Tl′
-use Rattle·path.specs.contracts.Kept as Kp
-use Rattle·path.proofs.Kept.the-laws as Kp′
-use Rattle·models·specs.Entries.{lossesIn, weightsIn, listsIn}
-use Rattle·models·specs.Inner.{noEntry, Judges}
-use Rattle·models·specs.declared.Entry.{Entry}
-use Rattle·models·specs.declared.Input.{Input}
-use Rattle·models·specs.declared.Judged.{Judged}
-use Rattle·models·proofs.Judgements.{input, can-try, found-few, judgement, judged-right}
-use Rattle·models·specs.contracts.Entry as T
-use Rattle·models·proofs.Entry.the-laws as T′
-use Rattle·models·specs.contracts.Input as In
-use Rattle·models·proofs.Input.the-laws as In′
-use Rattle·models·specs.contracts.Judged as Jd
-use Rattle·models·proofs.Judged.the-laws as Jd′
-use Rattle·models·specs.contracts.valid_entries as valid′
-use Rattle·models·proofs.valid_entries.Symbol as valid′-def
-use Rattle·models·proofs.valid_entries.Symbol.{name as #models·valid-entries}
-use Rattle·models·proofs.valid_entries.Met as valid′-thm
-use Rattle·models·specs.contracts.place_before as before
-use Rattle·models·proofs.place_before.Symbol as before-def
-use Rattle·models·proofs.place_before.Symbol.{name as #models·place-before}
-use Rattle·models·proofs.place_before.Met as before-thm
-use Rattle·models·specs.contracts.entry_at as there
-use Rattle·models·proofs.entry_at.Symbol as there-def
-use Rattle·models·proofs.entry_at.Symbol.{name as #models·entry-at}
-use Rattle·models·proofs.entry_at.Met as there-thm
-use Rattle·models·specs.contracts.input_of as input-of
-use Rattle·models·proofs.input_of.Symbol as input-of-def
-use Rattle·models·proofs.input_of.Symbol.{name as #models·input-of}
-use Rattle·models·proofs.input_of.Met as input-of-thm
-use Rattle·models·specs.contracts.scan as scan
-use Rattle·models·proofs.scan.Symbol as scan-def
-use Rattle·models·proofs.scan.Symbol.{name as #models·scan}
-use Rattle·models·proofs.scan.Met as scan-thm
-use Rattle·models·specs.contracts.answer_of as answer-of
-use Rattle·models·proofs.answer_of.Symbol as answer-of-def
-use Rattle·models·proofs.answer_of.Symbol.{name as #models·answer-of}
-use Rattle·models·proofs.answer_of.Met as answer-of-thm
-use Rattle·models·specs.contracts.judge.Key.{name as #models·judge}
-use Rattle·models·specs.contracts.judge as call
-use Rattle·models·proofs.judge.Statement as stated
-use Rattle·models·proofs.judge.Code as code
-use Rattle·models·proofs.judge.Code.Mir as pieces
+use Rattle·path.proofs.tally.Tally as Tl
+use Rattle·path.proofs.tally.Tally.Laws as Tl′
+use Rattle·path.proofs.Kept as Kp
+use Rattle·path.proofs.Kept.Laws as Kp′
+use Rattle·models·specs.specs.Entries.{lossesIn, weightsIn, listsIn}
+use Rattle·models·specs.specs.Inner.{noEntry, Judges}
+use Rattle·models·specs.specs.declared.Entry.{Entry}
+use Rattle·models·specs.specs.declared.Input.{Input}
+use Rattle·models·specs.specs.declared.Judged.{Judged}
+use Rattle·models·proofs.proofs.Judgements.{input, can-try, found-few, judgement, judged-right}
+use Rattle·models·proofs.proofs.Entry as T
+use Rattle·models·proofs.proofs.Entry.Laws as T′
+use Rattle·models·proofs.proofs.Input as In
+use Rattle·models·proofs.proofs.Input.Laws as In′
+use Rattle·models·proofs.proofs.Judged as Jd
+use Rattle·models·proofs.proofs.Judged.Laws as Jd′
+use Rattle·models·proofs.proofs.valid_entries as valid′
+use Rattle·models·proofs.proofs.valid_entries.Symbol as valid′-def
+use Rattle·models·proofs.proofs.valid_entries.Symbol.{name as #models·valid-entries}
+use Rattle·models·proofs.proofs.valid_entries.Met as valid′-thm
+use Rattle·models·proofs.proofs.place_before as before
+use Rattle·models·proofs.proofs.place_before.Symbol as before-def
+use Rattle·models·proofs.proofs.place_before.Symbol.{name as #models·place-before}
+use Rattle·models·proofs.proofs.place_before.Met as before-thm
+use Rattle·models·proofs.proofs.entry_at as there
+use Rattle·models·proofs.proofs.entry_at.Symbol as there-def
+use Rattle·models·proofs.proofs.entry_at.Symbol.{name as #models·entry-at}
+use Rattle·models·proofs.proofs.entry_at.Met as there-thm
+use Rattle·models·proofs.proofs.input_of as input-of
+use Rattle·models·proofs.proofs.input_of.Symbol as input-of-def
+use Rattle·models·proofs.proofs.input_of.Symbol.{name as #models·input-of}
+use Rattle·models·proofs.proofs.input_of.Met as input-of-thm
+use Rattle·models·proofs.proofs.scan as scan
+use Rattle·models·proofs.proofs.scan.Symbol as scan-def
+use Rattle·models·proofs.proofs.scan.Symbol.{name as #models·scan}
+use Rattle·models·proofs.proofs.scan.Met as scan-thm
+use Rattle·models·proofs.proofs.answer_of as answer-of
+use Rattle·models·proofs.proofs.answer_of.Symbol as answer-of-def
+use Rattle·models·proofs.proofs.answer_of.Symbol.{name as #models·answer-of}
+use Rattle·models·proofs.proofs.answer_of.Met as answer-of-thm
+use Rattle·models·proofs.proofs.judge.Key.{name as #models·judge}
+use Rattle·models·proofs.proofs.judge as call
+use Rattle·models·proofs.proofs.judge.Statement as stated
+use Rattle·models·proofs.proofs.judge.Code as code
+use Rattle·models·proofs.proofs.judge.Code.Mir as pieces
 
 abbrev R : RattleType
 R = T.the-row

@@ -1,8 +1,8 @@
 -- `models::listing` meets its contract: refused, or as many breakpoints as there are.
 use borrow.Author.Needs.{needs}
-use Rattle·models·proofs.Outcomes.{listing-refused, listing-passes}
-use Rattle·models·proofs.listing.Statement.{statement}
-use Rattle·models·proofs.listing.Tie as tie
+use Rattle·models·proofs.proofs.Outcomes.{listing-refused, listing-passes}
+use Rattle·models·proofs.proofs.listing.Statement.{statement}
+use Rattle·models·proofs.proofs.listing.Tie as tie
 
 breakpoints-refusal-requires : tie.Need-breakpoints-refusal-requires
 breakpoints-refusal-requires c κs = search needs

@@ -2,8 +2,8 @@
 use mathlib.Core.Path.{sym, _∙_}
 use borrow.Author.Needs.{needs}
 use borrow.Author.Tests.{not-true, not-false}
-use Rattle·models·proofs.look_from.Statement.{statement}
-use Rattle·models·proofs.look_from.Tie as tie
+use Rattle·models·proofs.proofs.look_from.Statement.{statement}
+use Rattle·models·proofs.proofs.look_from.Tie as tie
 
 has-room-requires : tie.Need-has-room-requires
 has-room-requires c κs = search needs

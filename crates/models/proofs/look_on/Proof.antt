@@ -3,9 +3,9 @@ use mathlib.Core.Path.{sym, _∙_}
 use native.Mathlib.Omega.{arith}
 use borrow.Author.Needs.{needs}
 use borrow.Author.Tests.{not-true, not-false}
-use Rattle·models·proofs.Looks.{right}
-use Rattle·models·proofs.look_on.Statement.{statement}
-use Rattle·models·proofs.look_on.Tie as tie
+use Rattle·models·proofs.proofs.Looks.{right}
+use Rattle·models·proofs.proofs.look_on.Statement.{statement}
+use Rattle·models·proofs.proofs.look_on.Tie as tie
 
 looks-right-requires : tie.Need-looks-right-requires
 looks-right-requires c κs = search needs

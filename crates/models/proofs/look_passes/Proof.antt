@@ -1,7 +1,7 @@
 -- `models::look_passes` meets its contract: each answer goes by the tests that led to it.
 use borrow.Author.Tests.{le-leb, lt-leb}
-use Rattle·models·proofs.look_passes.Statement.{statement}
-use Rattle·models·proofs.look_passes.Tie as tie
+use Rattle·models·proofs.proofs.look_passes.Statement.{statement}
+use Rattle·models·proofs.proofs.look_passes.Tie as tie
 
 returns : tie.Need-returns
 returns c = simp (lt-leb _ _ (c .if1 .taken))

@@ -1,7 +1,7 @@
 -- `models::looks_right` meets its contract: each answer goes by the tests that led to it.
 use borrow.Author.Tests.{le-leb, lt-leb, lt-ltb, le-ltb}
-use Rattle·models·proofs.looks_right.Statement.{statement}
-use Rattle·models·proofs.looks_right.Tie as tie
+use Rattle·models·proofs.proofs.looks_right.Statement.{statement}
+use Rattle·models·proofs.proofs.looks_right.Tie as tie
 
 returns : tie.Need-returns
 returns c = simp (le-ltb _ _ (c .if1 .taken))

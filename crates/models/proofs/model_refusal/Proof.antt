@@ -6,11 +6,11 @@ use native.Mathlib.Omega.{arith}
 use borrow.Author.Tests.{ne-eqb}
 use Rattle·path.specs.Model.{Model, model, lists, pathOf}
 use Rattle·path.specs.Refusal.{modelChecks, refusalOf}
-use Rattle·models·specs.Inner.{sizeOf, lossOf, weightOf, topOf}
-use Rattle·models·specs.declared.Entry.{Entry}
+use Rattle·models·specs.specs.Inner.{sizeOf, lossOf, weightOf, topOf}
+use Rattle·models·specs.specs.declared.Entry.{Entry}
 use borrow.Author.Needs.{needs}
-use Rattle·models·proofs.model_refusal.Statement.{statement}
-use Rattle·models·proofs.model_refusal.Tie as tie
+use Rattle·models·proofs.proofs.model_refusal.Statement.{statement}
+use Rattle·models·proofs.proofs.model_refusal.Tie as tie
 
 one-place : (n k : ℕ) (e : Entry) → k ≡ min n 1 → pathOf (lists (sizeOf e ∷ []) (lossOf e ∷ []) (weightOf e ∷ [])) k ≡ topOf n e
 unfolding pathOf

@@ -49,35 +49,35 @@ use denote.Triple.Walked.{says, needs, Stays, stay-none, stay-none-slice, walkOf
 use Rattle·path.specs.Inner.{Comparable, Scannable, tallyOf}
 use Rattle·path.specs.declared.tally.Tally.{Tally}
 use Rattle·path.specs.declared.tally.Tested.{Tested}
-use Rattle·path.specs.contracts.tally.Tally as Tl
-use Rattle·path.proofs.tally.Tally.the-laws as Tl′
-use Rattle·path.specs.contracts.tally.Tested as Ts
-use Rattle·path.proofs.tally.Tested.the-laws as Ts′
-use Rattle·path.specs.contracts.Kept as Kp
-use Rattle·path.proofs.Kept.the-laws as Kp′
-use Rattle·models·specs.contracts.test_at as test
-use Rattle·models·proofs.test_at.Symbol as test-def
-use Rattle·models·proofs.test_at.Symbol.{name as #models·test-at}
-use Rattle·models·proofs.test_at.Met as test-thm
-use Rattle·models·specs.Entries.{lossesIn, weightsIn}
-use Rattle·models·specs.Inner.{noEntry, lossOf, weightOf}
-use Rattle·models·specs.declared.Entry.{Entry}
-use Rattle·models·proofs.Scans.{Going, Found, foundAt, Scanning, testOf, begins, there, going-small, small-place, found-small, in-path, countable, comparable, goes-on}
-use Rattle·models·specs.contracts.Entry as T
-use Rattle·models·proofs.Entry.the-laws as T′
-use Rattle·models·specs.contracts.place_before as before
-use Rattle·models·proofs.place_before.Symbol as before-def
-use Rattle·models·proofs.place_before.Symbol.{name as #models·place-before}
-use Rattle·models·proofs.place_before.Met as before-thm
-use Rattle·models·specs.contracts.smaller as smaller
-use Rattle·models·proofs.smaller.Symbol as smaller-def
-use Rattle·models·proofs.smaller.Symbol.{name as #models·smaller}
-use Rattle·models·proofs.smaller.Met as smaller-thm
-use Rattle·models·specs.contracts.scan.Key.{name as #models·scan}
-use Rattle·models·specs.contracts.scan as call
-use Rattle·models·proofs.scan.Statement as stated
-use Rattle·models·proofs.scan.Code as code
-use Rattle·models·proofs.scan.Code.Mir as pieces
+use Rattle·path.proofs.tally.Tally as Tl
+use Rattle·path.proofs.tally.Tally.Laws as Tl′
+use Rattle·path.proofs.tally.Tested as Ts
+use Rattle·path.proofs.tally.Tested.Laws as Ts′
+use Rattle·path.proofs.Kept as Kp
+use Rattle·path.proofs.Kept.Laws as Kp′
+use Rattle·models·proofs.proofs.test_at as test
+use Rattle·models·proofs.proofs.test_at.Symbol as test-def
+use Rattle·models·proofs.proofs.test_at.Symbol.{name as #models·test-at}
+use Rattle·models·proofs.proofs.test_at.Met as test-thm
+use Rattle·models·specs.specs.Entries.{lossesIn, weightsIn}
+use Rattle·models·specs.specs.Inner.{noEntry, lossOf, weightOf}
+use Rattle·models·specs.specs.declared.Entry.{Entry}
+use Rattle·models·proofs.proofs.Scans.{Going, Found, foundAt, Scanning, testOf, begins, there, going-small, small-place, found-small, in-path, countable, comparable, goes-on}
+use Rattle·models·proofs.proofs.Entry as T
+use Rattle·models·proofs.proofs.Entry.Laws as T′
+use Rattle·models·proofs.proofs.place_before as before
+use Rattle·models·proofs.proofs.place_before.Symbol as before-def
+use Rattle·models·proofs.proofs.place_before.Symbol.{name as #models·place-before}
+use Rattle·models·proofs.proofs.place_before.Met as before-thm
+use Rattle·models·proofs.proofs.smaller as smaller
+use Rattle·models·proofs.proofs.smaller.Symbol as smaller-def
+use Rattle·models·proofs.proofs.smaller.Symbol.{name as #models·smaller}
+use Rattle·models·proofs.proofs.smaller.Met as smaller-thm
+use Rattle·models·proofs.proofs.scan.Key.{name as #models·scan}
+use Rattle·models·proofs.proofs.scan as call
+use Rattle·models·proofs.proofs.scan.Statement as stated
+use Rattle·models·proofs.proofs.scan.Code as code
+use Rattle·models·proofs.proofs.scan.Code.Mir as pieces
 
 abbrev R : RattleType
 R = T.the-row

@@ -49,40 +49,40 @@ use Rattle·path.specs.Refusal.{validPath, maxLoss, maxWeight}
 use Rattle·select.specs.Penalty.{validPenalty}
 use Rattle·select.specs.Select.{selectOf}
 use Rattle·select.specs.declared.SelectResult.{SelectResult}
-use Rattle·select.specs.contracts.SelectResult as S
-use Rattle·select.proofs.SelectResult.the-laws as S′
-use Rattle·models·specs.Entries.{listsIn}
-use Rattle·models·specs.Inner.{noEntry}
-use Rattle·models·specs.InPlace.{walkFrom, walkOn}
-use Rattle·models·specs.declared.Entry.{Entry}
-use Rattle·models·specs.declared.Walk.{Walk}
-use Rattle·models·proofs.Looks.{model-in}
-use Rattle·models·proofs.Walking.{Walking, walk-start, walk-there, walk-asks, walk-on, walk-less, walk-ends}
-use Rattle·models·specs.contracts.Entry as T
-use Rattle·models·proofs.Entry.the-laws as T′
-use Rattle·models·specs.contracts.Walk as L
-use Rattle·models·proofs.Walk.the-laws as L′
-use Rattle·models·specs.contracts.valid_entries as tested
-use Rattle·models·proofs.valid_entries.Symbol as tested-def
-use Rattle·models·proofs.valid_entries.Symbol.{name as #models·valid-entries}
-use Rattle·models·proofs.valid_entries.Met as tested-thm
-use Rattle·models·specs.contracts.walk_from as begun
-use Rattle·models·proofs.walk_from.Symbol as begun-def
-use Rattle·models·proofs.walk_from.Symbol.{name as #models·walk-from}
-use Rattle·models·proofs.walk_from.Met as begun-thm
-use Rattle·models·specs.contracts.walk_on as stepped
-use Rattle·models·proofs.walk_on.Symbol as stepped-def
-use Rattle·models·proofs.walk_on.Symbol.{name as #models·walk-on}
-use Rattle·models·proofs.walk_on.Met as stepped-thm
-use Rattle·models·specs.contracts.walk_answer as answered
-use Rattle·models·proofs.walk_answer.Symbol as answered-def
-use Rattle·models·proofs.walk_answer.Symbol.{name as #models·walk-answer}
-use Rattle·models·proofs.walk_answer.Met as answered-thm
-use Rattle·models·specs.contracts.select_entries.Key.{name as #models·select-entries}
-use Rattle·models·specs.contracts.select_entries as call
-use Rattle·models·proofs.select_entries.Statement as stated
-use Rattle·models·proofs.select_entries.Code as code
-use Rattle·models·proofs.select_entries.Code.Mir as pieces
+use Rattle·select.proofs.SelectResult as S
+use Rattle·select.proofs.SelectResult.Laws as S′
+use Rattle·models·specs.specs.Entries.{listsIn}
+use Rattle·models·specs.specs.Inner.{noEntry}
+use Rattle·models·specs.specs.InPlace.{walkFrom, walkOn}
+use Rattle·models·specs.specs.declared.Entry.{Entry}
+use Rattle·models·specs.specs.declared.Walk.{Walk}
+use Rattle·models·proofs.proofs.Looks.{model-in}
+use Rattle·models·proofs.proofs.Walking.{Walking, walk-start, walk-there, walk-asks, walk-on, walk-less, walk-ends}
+use Rattle·models·proofs.proofs.Entry as T
+use Rattle·models·proofs.proofs.Entry.Laws as T′
+use Rattle·models·proofs.proofs.Walk as L
+use Rattle·models·proofs.proofs.Walk.Laws as L′
+use Rattle·models·proofs.proofs.valid_entries as tested
+use Rattle·models·proofs.proofs.valid_entries.Symbol as tested-def
+use Rattle·models·proofs.proofs.valid_entries.Symbol.{name as #models·valid-entries}
+use Rattle·models·proofs.proofs.valid_entries.Met as tested-thm
+use Rattle·models·proofs.proofs.walk_from as begun
+use Rattle·models·proofs.proofs.walk_from.Symbol as begun-def
+use Rattle·models·proofs.proofs.walk_from.Symbol.{name as #models·walk-from}
+use Rattle·models·proofs.proofs.walk_from.Met as begun-thm
+use Rattle·models·proofs.proofs.walk_on as stepped
+use Rattle·models·proofs.proofs.walk_on.Symbol as stepped-def
+use Rattle·models·proofs.proofs.walk_on.Symbol.{name as #models·walk-on}
+use Rattle·models·proofs.proofs.walk_on.Met as stepped-thm
+use Rattle·models·proofs.proofs.walk_answer as answered
+use Rattle·models·proofs.proofs.walk_answer.Symbol as answered-def
+use Rattle·models·proofs.proofs.walk_answer.Symbol.{name as #models·walk-answer}
+use Rattle·models·proofs.proofs.walk_answer.Met as answered-thm
+use Rattle·models·proofs.proofs.select_entries.Key.{name as #models·select-entries}
+use Rattle·models·proofs.proofs.select_entries as call
+use Rattle·models·proofs.proofs.select_entries.Statement as stated
+use Rattle·models·proofs.proofs.select_entries.Code as code
+use Rattle·models·proofs.proofs.select_entries.Code.Mir as pieces
 
 abbrev R : RattleType
 R = T.the-row

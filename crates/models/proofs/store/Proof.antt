@@ -44,16 +44,16 @@ use denote.Steps.{nothing, owned}
 use denote.Triple.Spec.{Meets, tripleOf}
 use denote.Triple.Table.{entered}
 use denote.Triple.Walked.{says, needs, Stays, stay-none, stay-slice, walkOf, Walks, ends-at, walked, goes-none, goes-slice, walk-meets}
-use Rattle·models·specs.Inner.{entryOf, noEntry}
-use Rattle·models·specs.declared.Entry.{Entry}
-use Rattle·models·proofs.Stores.{put, length-put, lists-put}
-use Rattle·models·specs.contracts.Entry as T
-use Rattle·models·proofs.Entry.the-laws as T′
-use Rattle·models·specs.contracts.store.Key.{name as #models·store}
-use Rattle·models·specs.contracts.store as call
-use Rattle·models·proofs.store.Statement as stated
-use Rattle·models·proofs.store.Code as code
-use Rattle·models·proofs.store.Code.Mir as pieces
+use Rattle·models·specs.specs.Inner.{entryOf, noEntry}
+use Rattle·models·specs.specs.declared.Entry.{Entry}
+use Rattle·models·proofs.proofs.Stores.{put, length-put, lists-put}
+use Rattle·models·proofs.proofs.Entry as T
+use Rattle·models·proofs.proofs.Entry.Laws as T′
+use Rattle·models·proofs.proofs.store.Key.{name as #models·store}
+use Rattle·models·proofs.proofs.store as call
+use Rattle·models·proofs.proofs.store.Statement as stated
+use Rattle·models·proofs.proofs.store.Code as code
+use Rattle·models·proofs.proofs.store.Code.Mir as pieces
 
 abbrev R : RattleType
 R = T.the-row

@@ -11,8 +11,8 @@ use Rattle·path.specs.Model.{model, lists, modelAt}
 use Rattle·path.specs.Inner.{Comparable}
 use Rattle·path.proofs.Paths.{first-holds, later-holds}
 use borrow.Author.Needs.{needs}
-use Rattle·models·proofs.test_at.Statement.{statement}
-use Rattle·models·proofs.test_at.Tie as tie
+use Rattle·models·proofs.proofs.test_at.Statement.{statement}
+use Rattle·models·proofs.proofs.test_at.Tie as tie
 
 -- A choice at place 0, and at another place.
 at-first : (p : ℕ) (b : Bool) → p ≡ 0 → true ≡ cond (eqb p 0) true b

@@ -46,33 +46,33 @@ use denote.Triple.Clauses.{ensured, lasts}
 use denote.Triple.Table.{entered, cited}
 use denote.Triple.Walked.{says, Stays, stay-none, stay-none-slice, walkOf, goes-none, goes-none-slice, Walks, ends-at, walked, walk-meets}
 use Rattle·path.specs.Refusal.{validPath}
-use Rattle·models·specs.Entries.{listsIn}
-use Rattle·models·specs.Inner.{noEntry}
-use Rattle·models·specs.InPlace.{lookFrom, lookOn, lookPasses}
-use Rattle·models·specs.declared.Entry.{Entry}
-use Rattle·models·specs.declared.Look.{Look}
-use Rattle·models·proofs.Looks.{Looking, model-in, look-within, look-on, look-less, look-ends, look-start}
-use Rattle·models·specs.contracts.Entry as T
-use Rattle·models·proofs.Entry.the-laws as T′
-use Rattle·models·specs.contracts.Look as L
-use Rattle·models·proofs.Look.the-laws as L′
-use Rattle·models·specs.contracts.look_from as begun
-use Rattle·models·proofs.look_from.Symbol as begun-def
-use Rattle·models·proofs.look_from.Symbol.{name as #models·look-from}
-use Rattle·models·proofs.look_from.Met as begun-thm
-use Rattle·models·specs.contracts.look_on as stepped
-use Rattle·models·proofs.look_on.Symbol as stepped-def
-use Rattle·models·proofs.look_on.Symbol.{name as #models·look-on}
-use Rattle·models·proofs.look_on.Met as stepped-thm
-use Rattle·models·specs.contracts.look_passes as passed
-use Rattle·models·proofs.look_passes.Symbol as passed-def
-use Rattle·models·proofs.look_passes.Symbol.{name as #models·look-passes}
-use Rattle·models·proofs.look_passes.Met as passed-thm
-use Rattle·models·specs.contracts.valid_entries.Key.{name as #models·valid-entries}
-use Rattle·models·specs.contracts.valid_entries as call
-use Rattle·models·proofs.valid_entries.Statement as stated
-use Rattle·models·proofs.valid_entries.Code as code
-use Rattle·models·proofs.valid_entries.Code.Mir as pieces
+use Rattle·models·specs.specs.Entries.{listsIn}
+use Rattle·models·specs.specs.Inner.{noEntry}
+use Rattle·models·specs.specs.InPlace.{lookFrom, lookOn, lookPasses}
+use Rattle·models·specs.specs.declared.Entry.{Entry}
+use Rattle·models·specs.specs.declared.Look.{Look}
+use Rattle·models·proofs.proofs.Looks.{Looking, model-in, look-within, look-on, look-less, look-ends, look-start}
+use Rattle·models·proofs.proofs.Entry as T
+use Rattle·models·proofs.proofs.Entry.Laws as T′
+use Rattle·models·proofs.proofs.Look as L
+use Rattle·models·proofs.proofs.Look.Laws as L′
+use Rattle·models·proofs.proofs.look_from as begun
+use Rattle·models·proofs.proofs.look_from.Symbol as begun-def
+use Rattle·models·proofs.proofs.look_from.Symbol.{name as #models·look-from}
+use Rattle·models·proofs.proofs.look_from.Met as begun-thm
+use Rattle·models·proofs.proofs.look_on as stepped
+use Rattle·models·proofs.proofs.look_on.Symbol as stepped-def
+use Rattle·models·proofs.proofs.look_on.Symbol.{name as #models·look-on}
+use Rattle·models·proofs.proofs.look_on.Met as stepped-thm
+use Rattle·models·proofs.proofs.look_passes as passed
+use Rattle·models·proofs.proofs.look_passes.Symbol as passed-def
+use Rattle·models·proofs.proofs.look_passes.Symbol.{name as #models·look-passes}
+use Rattle·models·proofs.proofs.look_passes.Met as passed-thm
+use Rattle·models·proofs.proofs.valid_entries.Key.{name as #models·valid-entries}
+use Rattle·models·proofs.proofs.valid_entries as call
+use Rattle·models·proofs.proofs.valid_entries.Statement as stated
+use Rattle·models·proofs.proofs.valid_entries.Code as code
+use Rattle·models·proofs.proofs.valid_entries.Code.Mir as pieces
 
 abbrev R : RattleType
 R = T.the-row

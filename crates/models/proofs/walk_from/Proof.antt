@@ -1,8 +1,8 @@
 -- `models::walk_from` meets its contract: the walk has entries before it where it is not refused.
 use borrow.Author.Needs.{needs}
 use borrow.Author.Tests.{ne-eqb}
-use Rattle·models·proofs.walk_from.Statement.{statement}
-use Rattle·models·proofs.walk_from.Tie as tie
+use Rattle·models·proofs.proofs.walk_from.Statement.{statement}
+use Rattle·models·proofs.proofs.walk_from.Tie as tie
 
 select-refusal-requires : tie.Need-select-refusal-requires
 select-refusal-requires c κs = search needs

@@ -2,8 +2,8 @@
 use native.Mathlib.Omega.{arith}
 use borrow.Author.Needs.{needs}
 use borrow.Author.Tests.{le-leb, lt-leb}
-use Rattle·models·proofs.walk_on.Statement.{statement}
-use Rattle·models·proofs.walk_on.Tie as tie
+use Rattle·models·proofs.proofs.walk_on.Statement.{statement}
+use Rattle·models·proofs.proofs.walk_on.Tie as tie
 
 cost-of-requires : tie.Need-cost-of-requires
 cost-of-requires c κs = search needs

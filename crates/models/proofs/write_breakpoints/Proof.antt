@@ -47,17 +47,17 @@ use denote.Triple.Spec.{Meets, tripleOf}
 use denote.Triple.Table.{entered}
 use denote.Triple.Walked.{says, needs, Stays, stay-none, stay-none-slice, stay-slice, walkOf, Walks, ends-at, walked, goes-none, goes-none-slice, goes-slice, walk-meets}
 use Rattle·select.specs.Inner.{Listable}
-use Rattle·models·specs.Entries.{lossesIn, weightsIn}
-use Rattle·models·specs.Inner.{noEntry, lossOf, weightOf}
-use Rattle·models·specs.declared.Entry.{Entry}
-use Rattle·models·proofs.Neighbours.{lossFall, weightRise, listed, length-listed, falls-written, rises-written, Turn, turn-of}
-use Rattle·models·specs.contracts.Entry as T
-use Rattle·models·proofs.Entry.the-laws as T′
-use Rattle·models·specs.contracts.write_breakpoints.Key.{name as #models·write-breakpoints}
-use Rattle·models·specs.contracts.write_breakpoints as call
-use Rattle·models·proofs.write_breakpoints.Statement as stated
-use Rattle·models·proofs.write_breakpoints.Code as code
-use Rattle·models·proofs.write_breakpoints.Code.Mir as pieces
+use Rattle·models·specs.specs.Entries.{lossesIn, weightsIn}
+use Rattle·models·specs.specs.Inner.{noEntry, lossOf, weightOf}
+use Rattle·models·specs.specs.declared.Entry.{Entry}
+use Rattle·models·proofs.proofs.Neighbours.{lossFall, weightRise, listed, length-listed, falls-written, rises-written, Turn, turn-of}
+use Rattle·models·proofs.proofs.Entry as T
+use Rattle·models·proofs.proofs.Entry.Laws as T′
+use Rattle·models·proofs.proofs.write_breakpoints.Key.{name as #models·write-breakpoints}
+use Rattle·models·proofs.proofs.write_breakpoints as call
+use Rattle·models·proofs.proofs.write_breakpoints.Statement as stated
+use Rattle·models·proofs.proofs.write_breakpoints.Code as code
+use Rattle·models·proofs.proofs.write_breakpoints.Code.Mir as pieces
 
 abbrev R : RattleType
 R = T.the-row

@@ -1,7 +1,7 @@
 -- `models::written` meets its contract.
 use borrow.Author.Tests.{ne-eqb, eq-eqb}
-use Rattle·models·proofs.written.Statement.{statement}
-use Rattle·models·proofs.written.Tie as tie
+use Rattle·models·proofs.proofs.written.Statement.{statement}
+use Rattle·models·proofs.proofs.written.Tie as tie
 
 returns : tie.Need-returns
 returns c = rw (ne-eqb _ 0 (c .if1 .taken))

@@ -7,19 +7,19 @@ use Prim.Native.Nat.{_+_}
 use native.Mathlib.Omega.{arith}
 use lib.ListN.{length}
 use borrow.Author.Tests.{not-true, not-false}
-use Rattle·path·specs.declared.Kept.{Kept}
-use Rattle·path·specs.declared.PathResult.{PathResult}
-use Rattle·path·specs.declared.tally.Tally.{Tally}
-use Rattle·path·specs.Model.{lists, model, pathOf}
-use Rattle·path·specs.Refusal.{check, refusalOf, pathRoom, validPath, modelChecks}
-use Rattle·path·specs.Update.{kept, passedOver}
-use Rattle·path·specs.Append.{pathOutcome}
-use Rattle·path·specs.Inner.{HasPlaces, keptOf}
-use Rattle·path·proofs.Order.{Acceptable, acceptable, scannable, room-places}
-use Rattle·path·proofs.Cases.{input-refused, passes-over, kept-small, room-refused, accepted}
+use Rattle·path·specs.specs.declared.Kept.{Kept}
+use Rattle·path·specs.specs.declared.PathResult.{PathResult}
+use Rattle·path·specs.specs.declared.tally.Tally.{Tally}
+use Rattle·path·specs.specs.Model.{lists, model, pathOf}
+use Rattle·path·specs.specs.Refusal.{check, refusalOf, pathRoom, validPath, modelChecks}
+use Rattle·path·specs.specs.Update.{kept, passedOver}
+use Rattle·path·specs.specs.Append.{pathOutcome}
+use Rattle·path·specs.specs.Inner.{HasPlaces, keptOf}
+use Rattle·path·proofs.proofs.Order.{Acceptable, acceptable, scannable, room-places}
+use Rattle·path·proofs.proofs.Cases.{input-refused, passes-over, kept-small, room-refused, accepted}
 use borrow.Author.Needs.{needs}
-use Rattle·path·proofs.append.Statement.{statement}
-use Rattle·path·proofs.append.Tie as tie
+use Rattle·path·proofs.proofs.append.Statement.{statement}
+use Rattle·path·proofs.proofs.append.Tie as tie
 
 -- The input passes its checks.
 passes : (c : tie.Else1) → refusalOf (check 8 (validPath (lists (c .before .before .before .before .before .before .before .before .args .sizes .now)

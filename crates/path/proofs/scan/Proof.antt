@@ -1,10 +1,10 @@
 -- `path::scan` meets its contract. The loop's invariant: the scan has come to the first i entries.
 use mathlib.Core.Path.{ap}
 use native.Mathlib.Omega.{arith}
-use Rattle·path·specs.declared.tally.Tally.{Tally}
-use Rattle·path·proofs.Scans.{Scanned, scan-start, scan-asks, scan-on, scan-ends}
-use Rattle·path·proofs.scan.Statement.{statement}
-use Rattle·path·proofs.scan.Tie as tie
+use Rattle·path·specs.specs.declared.tally.Tally.{Tally}
+use Rattle·path·proofs.proofs.Scans.{Scanned, scan-start, scan-asks, scan-on, scan-ends}
+use Rattle·path·proofs.proofs.scan.Statement.{statement}
+use Rattle·path·proofs.proofs.scan.Tie as tie
 
 abbrev Inv-loop : tie.InvT-loop
 Inv-loop losses weights entries loss weight i₀ tests₀ i tests = Scanned losses weights entries loss weight (tests₀ .count) i (tests .count)

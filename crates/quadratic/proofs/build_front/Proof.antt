@@ -5,10 +5,10 @@ use Rattle·path.specs.Append.{pathLeft}
 use Rattle·path.specs.Inner.{firstPlaces}
 use Rattle·path.specs.declared.tally.Tally.{Tally}
 use Rattle·path.proofs.Held.{held-left}
-use Rattle·quadratic·specs.Quadratic.{quadratic}
+use Rattle·quadratic·specs.specs.Quadratic.{quadratic}
 use borrow.Author.Needs.{needs}
-use Rattle·quadratic·proofs.build_front.Statement.{statement}
-use Rattle·quadratic·proofs.build_front.Tie as tie
+use Rattle·quadratic·proofs.proofs.build_front.Statement.{statement}
+use Rattle·quadratic·proofs.proofs.build_front.Tie as tie
 
 returns : tie.Need-returns
 returns c =

@@ -10,11 +10,11 @@ use Rattle·build.specs.Build.{buildChecks}
 use Rattle·build.specs.Inner.{Fillable}
 use Rattle·build.proofs.Lists.{buildable}
 use Rattle·build.proofs.Cases.{may-copy, may-fill-copied}
-use Rattle·quadratic·specs.Quadratic.{quadratic}
-use Rattle·quadratic·proofs.Cases.{quadratic-refused, quadratic-done}
+use Rattle·quadratic·specs.specs.Quadratic.{quadratic}
+use Rattle·quadratic·proofs.proofs.Cases.{quadratic-refused, quadratic-done}
 use borrow.Author.Needs.{needs}
-use Rattle·quadratic·proofs.build_quadratic.Statement.{statement}
-use Rattle·quadratic·proofs.build_quadratic.Tie as tie
+use Rattle·quadratic·proofs.proofs.build_quadratic.Statement.{statement}
+use Rattle·quadratic·proofs.proofs.build_quadratic.Tie as tie
 
 -- The models, the buffers, and that the checks pass.
 abbrev given : tie.Start → Lists

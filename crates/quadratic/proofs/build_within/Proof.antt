@@ -10,11 +10,11 @@ use Rattle·path.specs.declared.PathResult.{PathResult}
 use Rattle·path.specs.Append.{pathOutcome}
 use Rattle·build.specs.Build.{buildChecks}
 use Rattle·build.proofs.Cases.{within-refused, may-fill-within, within-done}
-use Rattle·quadratic·specs.Quadratic.{quadratic}
-use Rattle·quadratic·specs.Inner.{withinBy}
+use Rattle·quadratic·specs.specs.Quadratic.{quadratic}
+use Rattle·quadratic·specs.specs.Inner.{withinBy}
 use borrow.Author.Needs.{needs}
-use Rattle·quadratic·proofs.build_within.Statement.{statement}
-use Rattle·quadratic·proofs.build_within.Tie as tie
+use Rattle·quadratic·proofs.proofs.build_within.Statement.{statement}
+use Rattle·quadratic·proofs.proofs.build_within.Tie as tie
 
 -- The models, the rooms, and the outcome by a method.
 abbrev given : tie.Start → Lists

@@ -11,9 +11,9 @@ use Rattle·path.specs.Update.{tried}
 use Rattle·path.specs.Inner.{Held, firstPlaces}
 use Rattle·path.proofs.Held.{setModel}
 use Rattle·build.proofs.Steps.{still-model}
-use Rattle·quadratic·proofs.Dropped.{dropped-none, dropped-one, kept-one}
-use Rattle·quadratic·proofs.drop_passed.Statement.{statement}
-use Rattle·quadratic·proofs.drop_passed.Tie as tie
+use Rattle·quadratic·proofs.proofs.Dropped.{dropped-none, dropped-one, kept-one}
+use Rattle·quadratic·proofs.proofs.drop_passed.Statement.{statement}
+use Rattle·quadratic·proofs.proofs.drop_passed.Tie as tie
 
 abbrev Inv-loop : tie.InvT-loop
 Inv-loop sizes₀ losses₀ weights₀ count kept₀ i₀ sizes losses weights kept i =

@@ -5,10 +5,10 @@ use mathlib.Core.List.{List}
 use Prim.Native.Nat.{ℕ, _+_, _-_, _≤_, _<_}
 use native.Mathlib.Omega.{arith}
 use Rattle·path.specs.Model.{lists, modelAt}
-use Rattle·quadratic·specs.Inner.{NearestAt}
-use Rattle·quadratic·proofs.Searches.{nearest-first, nearest-now, nearest-still}
-use Rattle·quadratic·proofs.find_nearest.Statement.{statement}
-use Rattle·quadratic·proofs.find_nearest.Tie as tie
+use Rattle·quadratic·specs.specs.Inner.{NearestAt}
+use Rattle·quadratic·proofs.proofs.Searches.{nearest-first, nearest-now, nearest-still}
+use Rattle·quadratic·proofs.proofs.find_nearest.Statement.{statement}
+use Rattle·quadratic·proofs.proofs.find_nearest.Tie as tie
 
 abbrev Inv-loop : tie.InvT-loop
 Inv-loop losses weights at loss weight best₀ i₀ best i = (i ≤ at) × (best < i) × ((s : List ℕ) → NearestAt (lists s losses weights) (modelAt (lists s losses weights) at) i best)

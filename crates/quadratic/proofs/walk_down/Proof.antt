@@ -4,9 +4,9 @@ use Prim.Native.Nat.{_+_, _-_, _≤_, _<_}
 use native.Mathlib.Omega.{arith}
 use lib.ListN.{length}
 use Rattle·path.specs.Model.{lists}
-use Rattle·quadratic·proofs.Descents.{Descended, descended-none, still-searchable, descended-all, descended-more}
-use Rattle·quadratic·proofs.walk_down.Statement.{statement}
-use Rattle·quadratic·proofs.walk_down.Tie as tie
+use Rattle·quadratic·proofs.proofs.Descents.{Descended, descended-none, still-searchable, descended-all, descended-more}
+use Rattle·quadratic·proofs.proofs.walk_down.Statement.{statement}
+use Rattle·quadratic·proofs.proofs.walk_down.Tie as tie
 
 abbrev Inv-loop : tie.InvT-loop
 Inv-loop path-sizes₀ path-losses₀ path-weights₀ n at₀ first₀ path-sizes path-losses path-weights at first = Descended (lists path-sizes₀ path-losses₀ path-weights₀) (lists path-sizes path-losses path-weights) n at first

@@ -6,11 +6,11 @@ use Rattle·path.specs.Model.{Lists, lists}
 use Rattle·path.specs.Refusal.{refusalOf}
 use Rattle·path.specs.Inner.{HasPlaces}
 use Rattle·path.proofs.Order.{valid-parts, places-fewer}
-use Rattle·select·specs.Select.{selectChecks}
-use Rattle·select·proofs.Walks.{walkable, Selectable, selectable, selected-within, selecting-checks, select-refused, select-done}
+use Rattle·select·specs.specs.Select.{selectChecks}
+use Rattle·select·proofs.proofs.Walks.{walkable, Selectable, selectable, selected-within, selecting-checks, select-refused, select-done}
 use borrow.Author.Needs.{needs}
-use Rattle·select·proofs.select.Statement.{statement}
-use Rattle·select·proofs.select.Tie as tie
+use Rattle·select·proofs.proofs.select.Statement.{statement}
+use Rattle·select·proofs.proofs.select.Tie as tie
 
 -- The start, from the place where the refusal is known.
 abbrev at-start : tie.After-select-refusal → tie.Start

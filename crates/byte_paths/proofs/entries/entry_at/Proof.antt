@@ -1,8 +1,8 @@
 -- `byte_paths::entries::entry_at` meets its contract.
 use Rattle·path.specs.Model.{model}
 use borrow.Author.Needs.{needs}
-use Rattle·byte_paths·proofs.entries.entry_at.Statement.{statement}
-use Rattle·byte_paths·proofs.entries.entry_at.Tie as tie
+use Rattle·byte_paths·proofs.proofs.entries.entry_at.Statement.{statement}
+use Rattle·byte_paths·proofs.proofs.entries.entry_at.Tie as tie
 
 returns : tie.Need-returns
 returns c =

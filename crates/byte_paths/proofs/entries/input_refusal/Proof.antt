@@ -7,8 +7,8 @@ use Rattle·path.specs.Refusal.{check, refusalOf, validPath, modelChecks}
 use Rattle·path.proofs.Order.{valid-parts}
 use Rattle·path.proofs.Checks.{check-fails, check-passes}
 use borrow.Author.Needs.{needs}
-use Rattle·byte_paths·proofs.entries.input_refusal.Statement.{statement}
-use Rattle·byte_paths·proofs.entries.input_refusal.Tie as tie
+use Rattle·byte_paths·proofs.proofs.entries.input_refusal.Statement.{statement}
+use Rattle·byte_paths·proofs.proofs.entries.input_refusal.Tie as tie
 
 valid-path-requires : tie.Need-valid-path-requires
 valid-path-requires c κs = search needs

@@ -4,10 +4,10 @@ use mathlib.Core.Path.{_≡_, ap, _∙_}
 use native.Mathlib.Omega.{arith}
 use Rattle·coding.specs.Models.{modelsCoding}
 use Rattle·path.specs.Model.{Model, Lists, lists, modelAt, pathOf}
-use Rattle·byte_paths·specs.Inner.{LastIs}
+use Rattle·byte_paths·specs.specs.Inner.{LastIs}
 use borrow.Author.Needs.{needs}
-use Rattle·byte_paths·proofs.entries.last_entry.Statement.{statement}
-use Rattle·byte_paths·proofs.entries.last_entry.Tie as tie
+use Rattle·byte_paths·proofs.proofs.entries.last_entry.Statement.{statement}
+use Rattle·byte_paths·proofs.proofs.entries.last_entry.Tie as tie
 
 none-last : (t : Lists) (n : ℕ) (m : Model) → n ≡ 0 → LastIs (pathOf t n) m
 unfolding pathOf

@@ -8,10 +8,10 @@ use Rattle·coding.specs.Models.{modelsCoding}
 use Rattle·path.specs.Model.{Model, Lists, lists, pathOf}
 use Rattle·path.specs.Model.{model}
 use Rattle·path.proofs.Order.{same-checks}
-use Rattle·byte_paths·specs.Inner.{LastIs}
+use Rattle·byte_paths·specs.specs.Inner.{LastIs}
 use borrow.Author.Needs.{needs}
-use Rattle·byte_paths·proofs.entries.model_refusal.Statement.{statement}
-use Rattle·byte_paths·proofs.entries.model_refusal.Tie as tie
+use Rattle·byte_paths·proofs.proofs.entries.model_refusal.Statement.{statement}
+use Rattle·byte_paths·proofs.proofs.entries.model_refusal.Tie as tie
 
 -- A path's last entry stands in lists of one place.
 one-place : (t : Lists) (n k : ℕ) (m : Model) → k ≡ min n 1 → LastIs (pathOf t n) m → take 1 (pathOf (lists (m .size ∷ []) (m .loss ∷ []) (m .weight ∷ [])) k) ≡ take 1 (pathOf t n)

@@ -8,9 +8,9 @@ use Rattle·path.specs.Model.{Model, model, lists, modelAt}
 use Rattle·path.specs.Refusal.{inRange, follows}
 use Rattle·path.proofs.Order.{places-fewer}
 use Rattle·path.proofs.Turns.{Reached, ordered-none, range-fails, reached-last, neighbours-fail, reached-before, reached-first}
-use Rattle·byte_paths·specs.declared.entries.Entry.{Entry}
-use Rattle·byte_paths·proofs.entries.ordered.Statement.{statement}
-use Rattle·byte_paths·proofs.entries.ordered.Tie as tie
+use Rattle·byte_paths·specs.specs.declared.entries.Entry.{Entry}
+use Rattle·byte_paths·proofs.proofs.entries.ordered.Statement.{statement}
+use Rattle·byte_paths·proofs.proofs.entries.ordered.Tie as tie
 
 -- The model of an entry.
 abbrev held : Entry → Model

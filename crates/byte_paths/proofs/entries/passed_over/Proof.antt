@@ -7,8 +7,8 @@ use Rattle·layout.specs.Items.{itemsOf}
 use Rattle·path.specs.Inner.{PassesOver}
 use Rattle·path.proofs.Scans.{none-passed, passed-by-last}
 use borrow.Author.Needs.{needs}
-use Rattle·byte_paths·proofs.entries.passed_over.Statement.{statement}
-use Rattle·byte_paths·proofs.entries.passed_over.Tie as tie
+use Rattle·byte_paths·proofs.proofs.entries.passed_over.Statement.{statement}
+use Rattle·byte_paths·proofs.proofs.entries.passed_over.Tie as tie
 
 returns : tie.Need-returns
 returns c = let a = c .before .before .args in none-passed (itemsOf 8 (a .losses .now)) (a .entries) (a .loss) (c .if1 .taken)

@@ -4,8 +4,8 @@ use native.Mathlib.Omega.{arith}
 use Rattle·layout.specs.Items.{itemsOf}
 use Rattle·path.specs.declared.tally.Tally.{Tally}
 use Rattle·path.proofs.Scans.{Scanned, scan-start, scan-asks, scan-on, scan-ends}
-use Rattle·byte_paths·proofs.entries.scan.Statement.{statement}
-use Rattle·byte_paths·proofs.entries.scan.Tie as tie
+use Rattle·byte_paths·proofs.proofs.entries.scan.Statement.{statement}
+use Rattle·byte_paths·proofs.proofs.entries.scan.Tie as tie
 
 abbrev Inv-loop : tie.InvT-loop
 Inv-loop losses weights entries loss weight i₀ tests₀ i tests = Scanned (itemsOf 8 losses) (itemsOf 2 weights) entries loss weight (tests₀ .count) i (tests .count)

@@ -5,8 +5,8 @@ use native.Mathlib.Omega.{arith}
 use Rattle·layout.specs.Items.{itemsOf}
 use Rattle·path.proofs.Scans.{tests-first, tests-later, two-scannable}
 use borrow.Author.Needs.{needs}
-use Rattle·byte_paths·proofs.entries.test.Statement.{statement}
-use Rattle·byte_paths·proofs.entries.test.Tie as tie
+use Rattle·byte_paths·proofs.proofs.entries.test.Statement.{statement}
+use Rattle·byte_paths·proofs.proofs.entries.test.Tie as tie
 
 returns : tie.Need-returns
 returns c =

@@ -9,8 +9,8 @@ use Rattle·path.specs.Update.{kept, testsMade}
 use Rattle·path.specs.Inner.{tallyOf}
 use Rattle·path.proofs.Paths.{keeps-nothing}
 use borrow.Author.Needs.{needs}
-use Rattle·byte_paths·proofs.entries.try_model.Statement.{statement}
-use Rattle·byte_paths·proofs.entries.try_model.Tie as tie
+use Rattle·byte_paths·proofs.proofs.entries.try_model.Statement.{statement}
+use Rattle·byte_paths·proofs.proofs.entries.try_model.Tie as tie
 
 returns : tie.Need-returns
 returns c s k =

@@ -5,10 +5,10 @@ use Rattle·coding.specs.Models.{modelsCoding}
 use Rattle·path.specs.Model.{lists}
 use Rattle·path.specs.Refusal.{validPath}
 use Rattle·path.proofs.Order.{room-places}
-use Rattle·byte_paths·proofs.Rooms.{room-numbers}
+use Rattle·byte_paths·proofs.proofs.Rooms.{room-numbers}
 use borrow.Author.Needs.{needs}
-use Rattle·byte_paths·proofs.entries.valid_path.Statement.{statement}
-use Rattle·byte_paths·proofs.entries.valid_path.Tie as tie
+use Rattle·byte_paths·proofs.proofs.entries.valid_path.Statement.{statement}
+use Rattle·byte_paths·proofs.proofs.entries.valid_path.Tie as tie
 
 returns : tie.Need-returns
 unfolding validPath

@@ -5,8 +5,8 @@ use native.Mathlib.Omega.{arith}
 use lib.ListN.{getD}
 use Rattle·layout.specs.Items.{itemsOf}
 use Rattle·select.proofs.Walks.{Walked, walk-start, walk-ends, walk-stops, walk-on}
-use Rattle·byte_paths·proofs.entries.walk.Statement.{statement}
-use Rattle·byte_paths·proofs.entries.walk.Tie as tie
+use Rattle·byte_paths·proofs.proofs.entries.walk.Statement.{statement}
+use Rattle·byte_paths·proofs.proofs.entries.walk.Tie as tie
 
 abbrev Inv-loop : tie.InvT-loop
 Inv-loop losses weights entries p q last i₀ cost₀ i cost = Walked (itemsOf 8 losses) (itemsOf 2 weights) p q last i cost

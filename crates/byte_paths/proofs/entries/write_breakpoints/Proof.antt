@@ -9,10 +9,10 @@ use lib.ListN.{length, getD}
 use Rattle·layout.specs.Items.{itemsOf}
 use Rattle·coding.proofs.Strings.{bytes-held}
 use Rattle·path.specs.Update.{Fraction}
-use Rattle·byte_paths·specs.Inner.{WrittenIn}
-use Rattle·byte_paths·proofs.Spelt.{spelt-inside, spelt-none, spelt-more}
-use Rattle·byte_paths·proofs.entries.write_breakpoints.Statement.{statement}
-use Rattle·byte_paths·proofs.entries.write_breakpoints.Tie as tie
+use Rattle·byte_paths·specs.specs.Inner.{WrittenIn}
+use Rattle·byte_paths·proofs.proofs.Spelt.{spelt-inside, spelt-none, spelt-more}
+use Rattle·byte_paths·proofs.proofs.entries.write_breakpoints.Statement.{statement}
+use Rattle·byte_paths·proofs.proofs.entries.write_breakpoints.Tie as tie
 
 abbrev numerator : Fraction → ℕ
 numerator b = b .numerator

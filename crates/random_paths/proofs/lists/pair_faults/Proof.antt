@@ -1,8 +1,8 @@
 -- `random_paths::lists::pair_faults` is safe and ends. The loop counts its index up to the end of the range.
 use Prim.Native.Nat.{_-_}
 use borrow.Author.Needs.{needs}
-use Rattle·random_paths·proofs.lists.pair_faults.Statement.{statement}
-use Rattle·random_paths·proofs.lists.pair_faults.Tie as tie
+use Rattle·random_paths·proofs.proofs.lists.pair_faults.Statement.{statement}
+use Rattle·random_paths·proofs.proofs.lists.pair_faults.Tie as tie
 
 pub pair-faults-spec : {M : Type 1} → statement M
 pair-faults-spec =

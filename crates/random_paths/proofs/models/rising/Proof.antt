@@ -1,8 +1,8 @@
 -- `random_paths::models::rising` is safe and ends. The loop counts its index up to the end of the range.
 use Prim.Native.Nat.{_-_}
 use borrow.Author.Needs.{needs}
-use Rattle·random_paths·proofs.models.rising.Statement.{statement}
-use Rattle·random_paths·proofs.models.rising.Tie as tie
+use Rattle·random_paths·proofs.proofs.models.rising.Statement.{statement}
+use Rattle·random_paths·proofs.proofs.models.rising.Tie as tie
 
 pub rising-spec : {M : Type 1} → statement M
 rising-spec =

@@ -4,12 +4,12 @@ use mathlib.Core.List.{List}
 use Prim.Native.Nat.{ℕ}
 use native.Mathlib.Omega.{arith}
 use lib.Seq.{length-take-le}
-use Rattle·report·specs.Inner.{LineAhead}
-use Rattle·report·proofs.Layouts.{weights-is, weights-is-not}
-use Rattle·report·proofs.Weighing.{ahead-path, ahead-line, ahead-off, found-none, found-not, found-line, found-other}
+use Rattle·report·specs.specs.Inner.{LineAhead}
+use Rattle·report·proofs.proofs.Layouts.{weights-is, weights-is-not}
+use Rattle·report·proofs.proofs.Weighing.{ahead-path, ahead-line, ahead-off, found-none, found-not, found-line, found-other}
 use borrow.Author.Needs.{needs}
-use Rattle·report·proofs.forms.find_weights.Statement.{statement}
-use Rattle·report·proofs.forms.find_weights.Tie as tie
+use Rattle·report·proofs.proofs.forms.find_weights.Statement.{statement}
+use Rattle·report·proofs.proofs.forms.find_weights.Tie as tie
 
 -- The next line, where it opens so.
 module _ (c : tie.After-start) where

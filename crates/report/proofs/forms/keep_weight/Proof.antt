@@ -2,10 +2,10 @@
 use mathlib.Core.Path.{sym, _∙_}
 use native.Mathlib.Omega.{arith}
 use borrow.Author.Tests.{not-true, not-false}
-use Rattle·report·proofs.Keeping.{kept-few, kept-out, kept-last, kept-more}
+use Rattle·report·proofs.proofs.Keeping.{kept-few, kept-out, kept-last, kept-more}
 use borrow.Author.Needs.{needs}
-use Rattle·report·proofs.forms.keep_weight.Statement.{statement}
-use Rattle·report·proofs.forms.keep_weight.Tie as tie
+use Rattle·report·proofs.proofs.forms.keep_weight.Statement.{statement}
+use Rattle·report·proofs.proofs.forms.keep_weight.Tie as tie
 
 mul-weights : tie.Need-mul-weights
 mul-weights c = omega (arith, c .before .before .pre .0)

@@ -10,13 +10,13 @@ use Rattle·weights.specs.Inner.{folded}
 use Rattle·text.specs.Text.{valueOf}
 use Rattle·text.specs.Inner.{rest}
 use Rattle·text.proofs.Readings.{figure-known, figure-none}
-use Rattle·report·specs.Forms.{allFigures}
-use Rattle·report·specs.Inner.{KeptFront}
-use Rattle·report·proofs.Layouts.{weights-bad, weights-good, figures-done, figures-on, figures-off, weights-on}
-use Rattle·report·proofs.Keeping.{kept-none, kept-on, kept-front}
+use Rattle·report·specs.specs.Forms.{allFigures}
+use Rattle·report·specs.specs.Inner.{KeptFront}
+use Rattle·report·proofs.proofs.Layouts.{weights-bad, weights-good, figures-done, figures-on, figures-off, weights-on}
+use Rattle·report·proofs.proofs.Keeping.{kept-none, kept-on, kept-front}
 use borrow.Author.Needs.{needs}
-use Rattle·report·proofs.forms.read_weights.Statement.{statement}
-use Rattle·report·proofs.forms.read_weights.Tie as tie
+use Rattle·report·proofs.proofs.forms.read_weights.Statement.{statement}
+use Rattle·report·proofs.proofs.forms.read_weights.Tie as tie
 
 abbrev Inv-loop : tie.InvT-loop
 Inv-loop text from weights₀ at₀ count₀ weights at count =

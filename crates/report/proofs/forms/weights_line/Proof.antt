@@ -6,11 +6,11 @@ use Prim.Native.Nat.{ℕ, _-_, _≤_}
 use native.Mathlib.Omega.{arith}
 use lib.ListN.{length, drop, length-take, length-drop}
 use borrow.Author.Tests.{not-true, not-false}
-use Rattle·report·specs.Forms.{inBrackets}
-use Rattle·report·proofs.Layouts.{form-inside, form-outside, brackets, weights-off}
+use Rattle·report·specs.specs.Forms.{inBrackets}
+use Rattle·report·proofs.proofs.Layouts.{form-inside, form-outside, brackets, weights-off}
 use borrow.Author.Needs.{needs}
-use Rattle·report·proofs.forms.weights_line.Statement.{statement}
-use Rattle·report·proofs.forms.weights_line.Tie as tie
+use Rattle·report·proofs.proofs.forms.weights_line.Statement.{statement}
+use Rattle·report·proofs.proofs.forms.weights_line.Tie as tie
 
 -- The line is in brackets, and so has two bytes or more.
 module _ (c : tie.Else1) where

@@ -5,10 +5,10 @@ use lib.Seq.{length-take-le}
 use borrow.Author.Tests.{not-true, not-false}
 use Rattle·text.specs.Text.{bytes}
 use Rattle·text.proofs.Searches.{first-part}
-use Rattle·report·proofs.Layouts.{weights-other, weights-words}
+use Rattle·report·proofs.proofs.Layouts.{weights-other, weights-words}
 use borrow.Author.Needs.{needs}
-use Rattle·report·proofs.forms.weights_words.Statement.{statement}
-use Rattle·report·proofs.forms.weights_words.Tie as tie
+use Rattle·report·proofs.proofs.forms.weights_words.Statement.{statement}
+use Rattle·report·proofs.proofs.forms.weights_words.Tie as tie
 
 slice-aggregate-same : tie.Need-slice-aggregate-same
 slice-aggregate-same c =

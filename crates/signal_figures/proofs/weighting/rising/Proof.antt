@@ -1,8 +1,8 @@
 -- `signal_figures::weighting::rising` is safe and ends. The loop counts its index up to the end of the range.
 use Prim.Native.Nat.{_-_}
 use borrow.Author.Needs.{needs}
-use Rattle·signal_figures·proofs.weighting.rising.Statement.{statement}
-use Rattle·signal_figures·proofs.weighting.rising.Tie as tie
+use Rattle·signal_figures·proofs.proofs.weighting.rising.Statement.{statement}
+use Rattle·signal_figures·proofs.proofs.weighting.rising.Tie as tie
 
 pub rising-spec : {M : Type 1} → statement M
 rising-spec =

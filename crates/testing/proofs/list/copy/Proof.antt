@@ -3,8 +3,8 @@ use Prim.Native.Nat.{_<_, _-_, _^_}
 use mathlib.Core.Path.{_≡_}
 use lib.ListN.{length}
 use borrow.Author.Needs.{needs}
-use Rattle·testing·proofs.list.copy.Statement.{statement}
-use Rattle·testing·proofs.list.copy.Tie as tie
+use Rattle·testing·proofs.proofs.list.copy.Statement.{statement}
+use Rattle·testing·proofs.proofs.list.copy.Tie as tie
 
 pub copy-spec : {M : Type 1} → statement M
 copy-spec =

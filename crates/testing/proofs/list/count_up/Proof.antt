@@ -3,8 +3,8 @@ use Prim.Native.Nat.{_<_, _-_, _^_}
 use mathlib.Core.Path.{_≡_}
 use lib.ListN.{length}
 use borrow.Author.Needs.{needs}
-use Rattle·testing·proofs.list.count_up.Statement.{statement}
-use Rattle·testing·proofs.list.count_up.Tie as tie
+use Rattle·testing·proofs.proofs.list.count_up.Statement.{statement}
+use Rattle·testing·proofs.proofs.list.count_up.Tie as tie
 
 pub count-up-spec : {M : Type 1} → statement M
 count-up-spec =

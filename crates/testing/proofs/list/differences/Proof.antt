@@ -1,8 +1,8 @@
 -- `testing::list::differences` is safe and ends. The loop counts its index up to the end of the range.
 use Prim.Native.Nat.{_<_, _-_, _^_}
 use borrow.Author.Needs.{needs}
-use Rattle·testing·proofs.list.differences.Statement.{statement}
-use Rattle·testing·proofs.list.differences.Tie as tie
+use Rattle·testing·proofs.proofs.list.differences.Statement.{statement}
+use Rattle·testing·proofs.proofs.list.differences.Tie as tie
 
 pub differences-spec : {M : Type 1} → statement M
 differences-spec =

@@ -3,8 +3,8 @@ use Prim.Native.Nat.{_<_, _-_, _^_}
 use mathlib.Core.Path.{_≡_}
 use lib.ListN.{length}
 use borrow.Author.Needs.{needs}
-use Rattle·testing·proofs.list.fill.Statement.{statement}
-use Rattle·testing·proofs.list.fill.Tie as tie
+use Rattle·testing·proofs.proofs.list.fill.Statement.{statement}
+use Rattle·testing·proofs.proofs.list.fill.Tie as tie
 
 pub fill-spec : {M : Type 1} → statement M
 fill-spec =

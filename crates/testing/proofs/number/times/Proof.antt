@@ -1,8 +1,8 @@
 -- `testing::number::times` is safe and ends. The product of two numbers in these ranges fits.
 use borrow.Author.Needs.{needs}
 use Rattle·path.proofs.Products.{product-fits}
-use Rattle·testing·proofs.number.times.Statement.{statement}
-use Rattle·testing·proofs.number.times.Tie as tie
+use Rattle·testing·proofs.proofs.number.times.Statement.{statement}
+use Rattle·testing·proofs.proofs.number.times.Tie as tie
 
 pub times-spec : {M : Type 1} → statement M
 times-spec =

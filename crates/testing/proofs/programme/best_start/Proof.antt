@@ -1,8 +1,8 @@
 -- `testing::programme::best_start` is safe and ends. The loop counts its index up to the end of the range.
 use Prim.Native.Nat.{_-_}
 use borrow.Author.Needs.{needs}
-use Rattle·testing·proofs.programme.best_start.Statement.{statement}
-use Rattle·testing·proofs.programme.best_start.Tie as tie
+use Rattle·testing·proofs.proofs.programme.best_start.Statement.{statement}
+use Rattle·testing·proofs.proofs.programme.best_start.Tie as tie
 
 pub best-start-spec : {M : Type 1} → statement M
 best-start-spec =

@@ -1,8 +1,8 @@
 -- `testing::programme::last_column` is safe and ends. The loop counts its index up to the end of the range.
 use Prim.Native.Nat.{_-_}
 use borrow.Author.Needs.{needs}
-use Rattle·testing·proofs.programme.last_column.Statement.{statement}
-use Rattle·testing·proofs.programme.last_column.Tie as tie
+use Rattle·testing·proofs.proofs.programme.last_column.Statement.{statement}
+use Rattle·testing·proofs.proofs.programme.last_column.Tie as tie
 
 pub last-column-spec : {M : Type 1} → statement M
 last-column-spec =

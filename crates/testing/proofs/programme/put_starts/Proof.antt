@@ -3,8 +3,8 @@ use Prim.Native.Nat.{_-_}
 use mathlib.Core.Path.{_≡_}
 use lib.ListN.{length}
 use borrow.Author.Needs.{needs}
-use Rattle·testing·proofs.programme.put_starts.Statement.{statement}
-use Rattle·testing·proofs.programme.put_starts.Tie as tie
+use Rattle·testing·proofs.proofs.programme.put_starts.Statement.{statement}
+use Rattle·testing·proofs.proofs.programme.put_starts.Tie as tie
 
 pub put-starts-spec : {M : Type 1} → statement M
 put-starts-spec =

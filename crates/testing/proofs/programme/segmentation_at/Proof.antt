@@ -1,8 +1,8 @@
 -- `testing::programme::segmentation_at` is safe and ends. The loop counts its index up to the end of the range.
 use Prim.Native.Nat.{_-_}
 use borrow.Author.Needs.{needs}
-use Rattle·testing·proofs.programme.segmentation_at.Statement.{statement}
-use Rattle·testing·proofs.programme.segmentation_at.Tie as tie
+use Rattle·testing·proofs.proofs.programme.segmentation_at.Statement.{statement}
+use Rattle·testing·proofs.proofs.programme.segmentation_at.Tie as tie
 
 pub segmentation-at-spec : {M : Type 1} → statement M
 segmentation-at-spec =

@@ -1,8 +1,8 @@
 -- `testing::sample::levels_of` is safe and ends. The loop counts its index up to the end of the range.
 use Prim.Native.Nat.{_-_}
 use borrow.Author.Needs.{needs}
-use Rattle·testing·proofs.sample.levels_of.Statement.{statement}
-use Rattle·testing·proofs.sample.levels_of.Tie as tie
+use Rattle·testing·proofs.proofs.sample.levels_of.Statement.{statement}
+use Rattle·testing·proofs.proofs.sample.levels_of.Tie as tie
 
 pub levels-of-spec : {M : Type 1} → statement M
 levels-of-spec =

@@ -9,8 +9,8 @@ use mir.Facts.{toZ-ofZ, sfits-widen}
 use borrow.Author.Needs.{needs}
 use Rattle·segment.proofs.Integers.{P, N, PN-minus, tight}
 use Rattle·segment.proofs.Signed.{sfits-PN}
-use Rattle·testing·proofs.sample.lower.Statement.{statement}
-use Rattle·testing·proofs.sample.lower.Tie as tie
+use Rattle·testing·proofs.proofs.sample.lower.Statement.{statement}
+use Rattle·testing·proofs.proofs.sample.lower.Tie as tie
 
 module _ (n : ℕ) (small : n < 65536) where
   raised-bits : toZ w32 n ≡ pos n

@@ -3,8 +3,8 @@ use Prim.Native.Nat.{_<_, _-_, _^_}
 use mathlib.Core.Path.{_≡_}
 use lib.ListN.{length}
 use borrow.Author.Needs.{needs}
-use Rattle·testing·proofs.sample.lower_all.Statement.{statement}
-use Rattle·testing·proofs.sample.lower_all.Tie as tie
+use Rattle·testing·proofs.proofs.sample.lower_all.Statement.{statement}
+use Rattle·testing·proofs.proofs.sample.lower_all.Tie as tie
 
 pub lower-all-spec : {M : Type 1} → statement M
 lower-all-spec =

@@ -1,8 +1,8 @@
 -- `testing::sample::starts_of` is safe and ends. The loop counts its index up to the end of the range.
 use Prim.Native.Nat.{_-_}
 use borrow.Author.Needs.{needs}
-use Rattle·testing·proofs.sample.starts_of.Statement.{statement}
-use Rattle·testing·proofs.sample.starts_of.Tie as tie
+use Rattle·testing·proofs.proofs.sample.starts_of.Statement.{statement}
+use Rattle·testing·proofs.proofs.sample.starts_of.Tie as tie
 
 pub starts-of-spec : {M : Type 1} → statement M
 starts-of-spec =

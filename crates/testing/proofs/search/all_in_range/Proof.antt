@@ -1,8 +1,8 @@
 -- `testing::search::all_in_range` is safe and ends. The loop counts its index up to the end of the range.
 use Prim.Native.Nat.{_-_}
 use borrow.Author.Needs.{needs}
-use Rattle·testing·proofs.search.all_in_range.Statement.{statement}
-use Rattle·testing·proofs.search.all_in_range.Tie as tie
+use Rattle·testing·proofs.proofs.search.all_in_range.Statement.{statement}
+use Rattle·testing·proofs.proofs.search.all_in_range.Tie as tie
 
 pub all-in-range-spec : {M : Type 1} → statement M
 all-in-range-spec =

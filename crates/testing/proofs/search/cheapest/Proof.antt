@@ -1,8 +1,8 @@
 -- `testing::search::cheapest` is safe and ends. The loop counts its index up to the end of the range.
 use Prim.Native.Nat.{_-_}
 use borrow.Author.Needs.{needs}
-use Rattle·testing·proofs.search.cheapest.Statement.{statement}
-use Rattle·testing·proofs.search.cheapest.Tie as tie
+use Rattle·testing·proofs.proofs.search.cheapest.Statement.{statement}
+use Rattle·testing·proofs.proofs.search.cheapest.Tie as tie
 
 pub cheapest-spec : {M : Type 1} → statement M
 cheapest-spec =

@@ -3,8 +3,8 @@ use Prim.Native.Nat.{_-_}
 use mathlib.Core.Path.{_≡_}
 use lib.ListN.{length}
 use borrow.Author.Needs.{needs}
-use Rattle·testing·proofs.search.put_path.Statement.{statement}
-use Rattle·testing·proofs.search.put_path.Tie as tie
+use Rattle·testing·proofs.proofs.search.put_path.Statement.{statement}
+use Rattle·testing·proofs.proofs.search.put_path.Tie as tie
 
 pub put-path-spec : {M : Type 1} → statement M
 put-path-spec =

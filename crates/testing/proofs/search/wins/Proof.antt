@@ -1,8 +1,8 @@
 -- `testing::search::wins` is safe and ends. The loop counts its index up to the end of the range.
 use Prim.Native.Nat.{_-_}
 use borrow.Author.Needs.{needs}
-use Rattle·testing·proofs.search.wins.Statement.{statement}
-use Rattle·testing·proofs.search.wins.Tie as tie
+use Rattle·testing·proofs.proofs.search.wins.Statement.{statement}
+use Rattle·testing·proofs.proofs.search.wins.Tie as tie
 
 pub wins-spec : {M : Type 1} → statement M
 wins-spec =

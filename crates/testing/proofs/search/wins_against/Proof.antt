@@ -1,8 +1,8 @@
 -- `testing::search::wins_against` is safe and ends. The loop counts its index up to the end of the range.
 use Prim.Native.Nat.{_-_}
 use borrow.Author.Needs.{needs}
-use Rattle·testing·proofs.search.wins_against.Statement.{statement}
-use Rattle·testing·proofs.search.wins_against.Tie as tie
+use Rattle·testing·proofs.proofs.search.wins_against.Statement.{statement}
+use Rattle·testing·proofs.proofs.search.wins_against.Tie as tie
 
 pub wins-against-spec : {M : Type 1} → statement M
 wins-against-spec =

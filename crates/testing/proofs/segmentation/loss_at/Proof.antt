@@ -1,8 +1,8 @@
 -- `testing::segmentation::loss_at` is safe and ends. The loop counts its index up to the end of the range.
 use Prim.Native.Nat.{_-_}
 use borrow.Author.Needs.{needs}
-use Rattle·testing·proofs.segmentation.loss_at.Statement.{statement}
-use Rattle·testing·proofs.segmentation.loss_at.Tie as tie
+use Rattle·testing·proofs.proofs.segmentation.loss_at.Statement.{statement}
+use Rattle·testing·proofs.proofs.segmentation.loss_at.Tie as tie
 
 pub loss-at-spec : {M : Type 1} → statement M
 loss-at-spec =

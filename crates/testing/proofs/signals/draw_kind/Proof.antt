@@ -3,8 +3,8 @@ use Prim.Native.Nat.{_<_, _-_, _^_}
 use mathlib.Core.Path.{_≡_}
 use lib.ListN.{length}
 use borrow.Author.Needs.{needs}
-use Rattle·testing·proofs.signals.draw_kind.Statement.{statement}
-use Rattle·testing·proofs.signals.draw_kind.Tie as tie
+use Rattle·testing·proofs.proofs.signals.draw_kind.Statement.{statement}
+use Rattle·testing·proofs.proofs.signals.draw_kind.Tie as tie
 
 pub draw-kind-spec : {M : Type 1} → statement M
 draw-kind-spec =

@@ -3,8 +3,8 @@ use Prim.Native.Nat.{_-_}
 use mathlib.Core.Path.{_≡_}
 use lib.ListN.{length}
 use borrow.Author.Needs.{needs}
-use Rattle·testing·proofs.signals.draw_signal.Statement.{statement}
-use Rattle·testing·proofs.signals.draw_signal.Tie as tie
+use Rattle·testing·proofs.proofs.signals.draw_signal.Statement.{statement}
+use Rattle·testing·proofs.proofs.signals.draw_signal.Tie as tie
 
 pub draw-signal-spec : {M : Type 1} → statement M
 draw-signal-spec =

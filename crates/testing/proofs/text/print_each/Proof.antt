@@ -1,8 +1,8 @@
 -- `testing::text::print_each` is safe and ends. The loop counts its index up to the end of the range.
 use Prim.Native.Nat.{_-_}
 use borrow.Author.Needs.{needs}
-use Rattle·testing·proofs.text.print_each.Statement.{statement}
-use Rattle·testing·proofs.text.print_each.Tie as tie
+use Rattle·testing·proofs.proofs.text.print_each.Statement.{statement}
+use Rattle·testing·proofs.proofs.text.print_each.Tie as tie
 
 pub print-each-spec : {M : Type 1} → statement M
 print-each-spec =

@@ -5,12 +5,12 @@ use Prim.Native.Nat.{_-_}
 use native.Mathlib.Omega.{arith}
 use lib.ListN.{length}
 use mir.Facts.{toZ-ofZ}
-use Rattle·text·specs.Text.{digits, wholeDigits}
-use Rattle·text·proofs.Prints.{put-then, put-as}
-use Rattle·text·proofs.Texts.{level-below, level-above}
+use Rattle·text·specs.specs.Text.{digits, wholeDigits}
+use Rattle·text·proofs.proofs.Prints.{put-then, put-as}
+use Rattle·text·proofs.proofs.Texts.{level-below, level-above}
 use borrow.Author.Needs.{needs}
-use Rattle·text·proofs.print.put_level.Statement.{statement}
-use Rattle·text·proofs.print.put_level.Tie as tie
+use Rattle·text·proofs.proofs.print.put_level.Statement.{statement}
+use Rattle·text·proofs.proofs.print.put_level.Tie as tie
 
 -- What is written in the two cases is the level in decimal.
 below : (c : tie.Then1)

@@ -1,8 +1,8 @@
 -- `figures::paths::large::fifteenfold` is safe and ends. The loop counts its index up to the end of the range.
 use Prim.Native.Nat.{_-_}
 use borrow.Author.Needs.{needs}
-use Rattle·figures·proofs.paths.large.fifteenfold.Statement.{statement}
-use Rattle·figures·proofs.paths.large.fifteenfold.Tie as tie
+use Rattle·figures·proofs.proofs.paths.large.fifteenfold.Statement.{statement}
+use Rattle·figures·proofs.proofs.paths.large.fifteenfold.Tie as tie
 
 pub fifteenfold-spec : {M : Type 1} → statement M
 fifteenfold-spec =
