@@ -1,13 +1,13 @@
 -- The room that strings of whole items have for a path.
-use mathlib.Core.Path.{_≡_}
-use mathlib.Core.List.{[], _∷_}
-use Prim.Native.Nat.{ℕ, _/_}
+use mathlib.Core.Path.{◌≡◌}
+use mathlib.Core.List.{[], ◌∷◌}
+use Prim.Native.Nat.{ℕ, ◌/◌}
 use lib.ListN.{length}
-use Rattle·layout.proofs.ItemLists.{length-items}
-use Rattle·coding.specs.Models.{modelsCoding}
-use Rattle·path.specs.Model.{Lists}
-use Rattle·path.specs.Refusal.{maxModels, roomFor, pathRoom}
+use Rattle.layout.proofs.ItemLists.{length-items}
+use Rattle.coding.specs.Models.{modelsCoding}
+use Rattle.path.specs.Model.{Lists}
+use Rattle.path.specs.Refusal.{maxModels, room_for, pathRoom}
 
 -- The numbers of three strings have room for a path where there are whole items for it.
-pub room-numbers : (x : Lists) (n : ℕ) → pathRoom (modelsCoding .numbers x) n ≡ roomFor n (maxModels ∷ length (x .sizes) / 2 ∷ length (x .losses) / 8 ∷ length (x .weights) / 2 ∷ [])
-room-numbers x n i = roomFor n (maxModels ∷ length-items 2 (x .sizes) (length (x .sizes) / 2) i ∷ length-items 8 (x .losses) (length (x .losses) / 8) i ∷ length-items 2 (x .weights) (length (x .weights) / 2) i ∷ [])
+pub room-numbers : (x : Lists) (n : ℕ) → pathRoom (modelsCoding.numbers x) n ≡ room_for n (maxModels ∷ length x.sizes / 2 ∷ length x.losses / 8 ∷ length x.weights / 2 ∷ [])
+room-numbers x n i = room_for n (maxModels ∷ length-items 2 x.sizes (length x.sizes / 2) i ∷ length-items 8 x.losses (length x.losses / 8) i ∷ length-items 2 x.weights (length x.weights / 2) i ∷ [])

@@ -1,20 +1,17 @@
 -- What the inner functions ask for. A reader of the calls need not believe anything that stands here.
-use mathlib.Core.Path.{_≡_}
-use mathlib.Core.List.{List, [], _∷_}
-use Prim.Native.Nat.{ℕ, suc, _+_, _%_}
-use lib.ListN.{length}
-use Rattle·layout.specs.Items.{itemsOf, bytesOf}
-use Rattle·coding.specs.Coding.{Outcome, encodedOver}
-use Rattle·coding.specs.Models.{modelsCoding}
-use Rattle·coding.specs.Inner.{ListsFit}
-use Rattle·path.specs.Model.{Model, Lists, lists, pathOf, valuesOf}
-use Rattle·path.specs.Update.{Fraction, pathBreakpoints}
-use Rattle·path.specs.Buffer.{overwritten}
-use Rattle·path.specs.declared.PathResult.{PathResult}
-use Rattle·path.specs.Refusal.{maxModels}
-use Rattle·select.specs.Inner.{Listable}
-use Rattle·select.specs.declared.BreakpointsResult.{BreakpointsResult}
-use Rattle·byte_paths·specs.specs.Paths.{pathAnswers, appendCall, Fractions, fractionsCoding, breakpointsAnswers, breakpointsCall}
+use Rattle.std.specs.Prelude.{◌≡◌, List, [], ◌∷◌, ℕ, suc, ◌+◌, ◌%◌, length}
+use Rattle.layout.specs.Items.{items_of, bytes_of}
+use Rattle.coding.specs.Coding.{Outcome, encodedOver}
+use Rattle.coding.specs.Models.{modelsCoding}
+use Rattle.coding.specs.Inner.{ListsFit}
+use Rattle.path.specs.Model.{Model, Lists, lists, pathOf, values_of}
+use Rattle.path.specs.Update.{Fraction, pathBreakpoints}
+use Rattle.path.specs.Buffer.{overwritten}
+use Rattle.path.specs.declared.PathResult.{PathResult}
+use Rattle.path.specs.Refusal.{maxModels}
+use Rattle.select.specs.Inner.{Listable}
+use Rattle.select.specs.declared.BreakpointsResult.{BreakpointsResult}
+use Rattle.byte_paths.specs.Paths.{pathAnswers, appendCall, Fractions, fractionsCoding, breakpointsAnswers, breakpointsCall}
 
 -- How many models a build looks at.
 abbrev pub modelsRead : ℕ
@@ -27,20 +24,20 @@ LastIs (e ∷ r) m = m ≡ e
 
 -- For a build no byte is left over, and three lists fit the models.
 pub record BuildFits (x b : Lists) (i j k : ℕ) : Type 0 where
-  pub whole : modelsCoding .spare x + modelsCoding .spare b ≡ 0
+  pub whole : modelsCoding.spare x + modelsCoding.spare b ≡ 0
   pub given : ListsFit modelsRead x i j k
 
 -- What an append to strings of whole items leaves: that of the numbers, encoded.
 abbrev pub appendEncoded : Lists → ℕ → Model → Outcome PathResult Lists
-appendEncoded b n m = encodedOver modelsCoding pathAnswers b (appendCall n m tt (modelsCoding .numbers b))
+appendEncoded b n m = encodedOver modelsCoding pathAnswers b (appendCall n m tt (modelsCoding.numbers b))
 
 -- The same of a listing of breakpoints.
 abbrev pub breakpointsEncoded : Lists → ℕ → Fractions → Outcome BreakpointsResult Fractions
-breakpointsEncoded x n b = encodedOver fractionsCoding breakpointsAnswers b (breakpointsCall n (modelsCoding .numbers x) (fractionsCoding .numbers b))
+breakpointsEncoded x n b = encodedOver fractionsCoding breakpointsAnswers b (breakpointsCall n (modelsCoding.numbers x) (fractionsCoding.numbers b))
 
 -- The losses and weights that two strings hold may be listed, and two other strings of whole items have room for so many breakpoints.
 pub record ListableIn (losses weights : List ℕ) (count : ℕ) (numerators denominators : List ℕ) : Type 0 where
-  pub listable : Listable (itemsOf 8 losses) (itemsOf 2 weights) count (length (itemsOf 8 numerators)) (length (itemsOf 2 denominators))
+  pub listable : Listable (items_of 8 losses) (items_of 2 weights) count (length (items_of 8 numerators)) (length (items_of 2 denominators))
   pub numerators-whole : length numerators % 8 ≡ 0
   pub denominators-whole : length denominators % 2 ≡ 0
 
@@ -48,6 +45,6 @@ pub record ListableIn (losses weights : List ℕ) (count : ℕ) (numerators deno
 pub record WrittenIn (k : ℕ) (field : Fraction → ℕ) (losses weights b₀ b : List ℕ) (i : ℕ) : Type 0 where
   pub long : length b ≡ length b₀
   pub is : (sizes : List ℕ)
-      → b ≡ bytesOf k (overwritten
-      (valuesOf field (pathBreakpoints (pathOf (lists sizes (itemsOf 8 losses) (itemsOf 2 weights)) (suc i))))
-      (itemsOf k b₀))
+      → b ≡ bytes_of k (overwritten
+      (values_of field (pathBreakpoints (pathOf (lists sizes (items_of 8 losses) (items_of 2 weights)) (suc i))))
+      (items_of k b₀))

@@ -1,34 +1,31 @@
 -- The calls on a path over byte strings. Sizes, weights and denominators are items of two bytes, losses and numerators items of eight.
-use mathlib.Core.Path.{refl}
-use mathlib.Core.Bool.{Bool, true, false}
-use mathlib.Core.List.{List}
-use Prim.Native.Nat.{ℕ}
-use Rattle·coding.specs.Coding.{Outcome, outcome, Answers, Coding, unsigneds, none, _⊗_, Names, named, onBytes}
-use Rattle·coding.specs.Models.{modelsCoding}
-use Rattle·path.specs.Model.{Model, Lists}
-use Rattle·path.specs.Append.{PathOutcome, appendOf}
-use Rattle·path.specs.declared.PathResult.{PathResult}
-use Rattle·quadratic.specs.Quadratic.{buildBy}
-use Rattle·select.specs.Select.{selectRefused, selectOf}
-use Rattle·select.specs.declared.SelectResult.{SelectResult}
-use Rattle·select.specs.Breakpoints.{BreakpointsOutcome, breakpointsOf}
-use Rattle·select.specs.declared.BreakpointsResult.{BreakpointsResult}
+use Rattle.std.specs.Prelude.{refl, Bool, true, false, List, ℕ}
+use Rattle.coding.specs.Coding.{Outcome, outcome, Answers, Coding, unsigneds, none, ◌⊗◌, Names, named, onBytes}
+use Rattle.coding.specs.Models.{modelsCoding}
+use Rattle.path.specs.Model.{Model, Lists}
+use Rattle.path.specs.Append.{PathOutcome, appendOf}
+use Rattle.path.specs.declared.PathResult.{PathResult}
+use Rattle.quadratic.specs.Quadratic.{buildBy}
+use Rattle.select.specs.Select.{selectRefused, selectOf}
+use Rattle.select.specs.declared.SelectResult.{SelectResult}
+use Rattle.select.specs.Breakpoints.{BreakpointsOutcome, breakpointsOf}
+use Rattle.select.specs.declared.BreakpointsResult.{BreakpointsResult}
 
 -- The answers of an append and of a build.
 abbrev pub pathAnswers : Answers PathResult
 pathAnswers =
     record {
-      number = λ r. r .refusal;
+      number = λ r. r.refusal;
       refused = λ number. record { refusal = number; entries = 0; tests = record { count = 0 } };
       numbered = λ number. refl;
     }
 
 -- What an append or a build leaves, as an answer with its buffers.
 abbrev pub pathTold : PathOutcome → Outcome PathResult Lists
-pathTold o = outcome (record { refusal = o .refusal; entries = o .entries; tests = record { count = o .tests } }) (o .buffers)
+pathTold o = outcome (record { refusal = o.refusal; entries = o.entries; tests = record { count = o.tests } }) o.buffers
 
 -- An append of m to the path of n entries.
-abbrev pub appendCall : ℕ → Model → none .Numbers → Lists → Outcome PathResult Lists
+abbrev pub appendCall : ℕ → Model → none.Numbers → Lists → Outcome PathResult Lists
 appendCall n m nothing b = pathTold (appendOf b n m)
 
 abbrev pub appendBytesOf : Lists → ℕ → Model → Outcome PathResult Lists
@@ -48,14 +45,14 @@ abbrev pub quadraticBytesOf : Lists → Lists → Outcome PathResult Lists
 quadraticBytesOf = buildBytesBy true
 
 abbrev pub selectAnswers : Answers SelectResult
-selectAnswers = record { number = λ r. r .refusal; refused = selectRefused; numbered = λ number. refl }
+selectAnswers = record { number = λ r. r.refusal; refused = selectRefused; numbered = λ number. refl }
 
 -- The selection from the path of n entries at the penalty p / q. It has no buffers.
-abbrev pub selectCall : ℕ → ℕ → ℕ → Lists → none .Numbers → Outcome SelectResult (none .Numbers)
+abbrev pub selectCall : ℕ → ℕ → ℕ → Lists → none.Numbers → Outcome SelectResult none.Numbers
 selectCall n p q x nothing = outcome (selectOf x n p q) nothing
 
 abbrev pub selectBytesOf : Lists → ℕ → ℕ → ℕ → SelectResult
-selectBytesOf x n p q = onBytes modelsCoding none selectAnswers (selectCall n p q) x tt .answer
+selectBytesOf x n p q = (onBytes modelsCoding none selectAnswers (selectCall n p q) x tt).answer
 
 -- Breakpoints: two byte strings, or the numbers that they hold.
 pub record Fractions : Type 0 where
@@ -69,10 +66,10 @@ fractions numerators denominators = record { numerators = numerators; denominato
 abbrev pub fractionNames : Names Fractions (List ℕ × List ℕ)
 fractionNames =
     record {
-      inOrder = λ x. (x .numerators, x .denominators);
+      inOrder = λ x. (x.numerators, x.denominators);
       byName = λ (numerators, denominators). fractions numerators denominators;
       same-order = λ x. refl;
-      same-names = λ x. refl;
+      same_names = λ x. refl;
     }
 
 abbrev pub fractionsCoding : Coding
@@ -80,15 +77,15 @@ fractionsCoding = named (unsigneds 8 ⊗ unsigneds 2) fractionNames fractionName
 
 abbrev pub breakpointsAnswers : Answers BreakpointsResult
 breakpointsAnswers =
-    record { number = λ r. r .refusal; refused = λ number. record { refusal = number; count = 0 }; numbered = λ number. refl }
+    record { number = λ r. r.refusal; refused = λ number. record { refusal = number; count = 0 }; numbered = λ number. refl }
 
 -- What a listing of breakpoints leaves, as an answer with its buffers.
 abbrev pub breakpointsTold : BreakpointsOutcome → Outcome BreakpointsResult Fractions
-breakpointsTold o = outcome (record { refusal = o .refusal; count = o .count }) (fractions (o .numerators) (o .denominators))
+breakpointsTold o = outcome (record { refusal = o.refusal; count = o.count }) (fractions o.numerators o.denominators)
 
 -- The breakpoints of the path of n entries, written to two buffers.
 abbrev pub breakpointsCall : ℕ → Lists → Fractions → Outcome BreakpointsResult Fractions
-breakpointsCall n x b = breakpointsTold (breakpointsOf x n (b .numerators) (b .denominators))
+breakpointsCall n x b = breakpointsTold (breakpointsOf x n b.numerators b.denominators)
 
 abbrev pub breakpointsBytesOf : Lists → ℕ → Fractions → Outcome BreakpointsResult Fractions
 breakpointsBytesOf x n b = onBytes modelsCoding fractionsCoding breakpointsAnswers (breakpointsCall n) x b

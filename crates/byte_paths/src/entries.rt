@@ -2,31 +2,25 @@
 // them, the entry that a penalty selects, and the breakpoints. Each function is that of the crate `path` or `select`, on the numbers
 // that the strings spell.
 
-ghost use mathlib.Core.Path.{_≡_};
-ghost use mathlib.Core.Bool.{true};
-ghost use mathlib.Core.List.{_∷_};
-ghost use Prim.Native.Nat.{_+_, _-_, _≤_};
-ghost use lib.ListN.{length};
-ghost use Rattle·layout.specs.Items.{itemsOf};
-ghost use Rattle·coding.specs.Models.{modelsCoding};
-ghost use Rattle·path.specs.Model.{model, lists, modelAt, pathOf};
-ghost use Rattle·path.specs.Refusal.{inRange, follows, ordered, validPath, check, modelChecks, refusalOf};
-ghost use Rattle·path.specs.Inner.{HasPlaces, Scannable, PassesOver, TestsLast, KeepsOf, tallyOf};
-ghost use Rattle·path.specs.Update.{Fraction};
-ghost use Rattle·select.specs.Penalty.{validPenalty};
-ghost use Rattle·select.specs.Inner.{Walkable, Selects};
-ghost use Rattle·byte_paths·specs.specs.Inner.{LastIs, ListableIn, WrittenIn};
-use layout::item_u16;
-use layout::item_u64;
-use layout::put;
+ghost use Rattle.std.specs.Prelude.{◌≡◌, true, ◌∷◌, ◌+◌, ◌-◌, ◌≤◌, length};
+ghost use Rattle.layout.specs.Items.{items_of};
+ghost use Rattle.coding.specs.Models.{modelsCoding};
+ghost use Rattle.path.specs.Model.{model, lists, model_at, pathOf};
+ghost use Rattle.path.specs.Refusal.{in_range, follows, ordered, validPath, check, modelChecks, refusalOf};
+ghost use Rattle.path.specs.Inner.{HasPlaces, Scannable, PassesOver, TestsLast, KeepsOf, tally_of};
+ghost use Rattle.path.specs.Update.{Fraction};
+ghost use Rattle.select.specs.Penalty.{validPenalty};
+ghost use Rattle.select.specs.Inner.{Walkable, Selects};
+ghost use Rattle.byte_paths.specs.Inner.{LastIs, ListableIn, WrittenIn};
+
+use layout::{item_u16, item_u64, put};
 use least::smaller;
-use path::Kept;
-use path::tally;
-use path::tally::Tally;
-use path::tally::Tested;
+use path::tally::{Tally, Tested};
+use path::{Kept, tally};
 use select::cost_of;
 
 // An entry of a path.
+#[derive(Drop)]
 pub struct Entry {
     pub size: u64,
     pub loss: u64,
@@ -35,9 +29,9 @@ pub struct Entry {
 
 // The entry at place i.
 pub fn entry_at(sizes: &[u8], losses: &[u8], weights: &[u8], i: usize) -> Entry
-    requires { ⌜ HasPlaces (modelsCoding .numbers (lists (now sizes) (now losses) (now weights))) (i + 1) ⌝ }
-    ensures { λ r. ⌜ model (r .size) (r .loss) (r .weight)
-        ≡ modelAt (modelsCoding .numbers (lists (now (sizes .entry)) (now (losses .entry)) (now (weights .entry)))) i ⌝ }
+    requires { HasPlaces (modelsCoding.numbers (lists sizes.now losses.now weights.now)) (i + 1) }
+    ensures { model result.size result.loss result.weight
+        ≡ model_at (modelsCoding.numbers (lists sizes.now losses.now weights.now)) i }
 {
     Entry {
         size: item_u16(sizes, i),
@@ -48,14 +42,14 @@ pub fn entry_at(sizes: &[u8], losses: &[u8], weights: &[u8], i: usize) -> Entry
 
 // Whether an entry is in range.
 fn in_range(e: Entry) -> bool
-    ensures { λ r. ⌜ r ≡ inRange (model (e .size) (e .loss) (e .weight)) ⌝ }
+    ensures { result ≡ in_range (model e.size e.loss e.weight) }
 {
     path::in_range(e.size, e.loss, e.weight)
 }
 
 // Whether entry e may follow entry d.
 fn follows(d: Entry, e: Entry) -> bool
-    ensures { λ r. ⌜ r ≡ follows (model (d .size) (d .loss) (d .weight)) (model (e .size) (e .loss) (e .weight)) ⌝ }
+    ensures { result ≡ follows (model d.size d.loss d.weight) (model e.size e.loss e.weight) }
 {
     path::follows(d.size, d.loss, d.weight, e.size, e.loss, e.weight)
 }
@@ -63,9 +57,9 @@ fn follows(d: Entry, e: Entry) -> bool
 // Whether the first entries are in range, with sizes and weights rising and losses falling. Where they do, what is in range at both ends
 // is in range between them.
 fn ordered(sizes: &[u8], losses: &[u8], weights: &[u8], entries: usize) -> bool
-    requires { ⌜ HasPlaces (modelsCoding .numbers (lists (now sizes) (now losses) (now weights))) entries ⌝ }
-    ensures { λ r. ⌜ r ≡ ordered
-        (pathOf (modelsCoding .numbers (lists (now (sizes .entry)) (now (losses .entry)) (now (weights .entry)))) entries) ⌝ }
+    requires { HasPlaces (modelsCoding.numbers (lists sizes.now losses.now weights.now)) entries }
+    ensures { result ≡ ordered
+        (pathOf (modelsCoding.numbers (lists sizes.now losses.now weights.now)) entries) }
 {
     if entries == 0 {
         return true;
@@ -88,8 +82,8 @@ fn ordered(sizes: &[u8], losses: &[u8], weights: &[u8], entries: usize) -> bool
 
 // Whether a path of so many entries is in order.
 pub fn valid_path(sizes: &[u8], losses: &[u8], weights: &[u8], entries: usize) -> bool
-    ensures { λ r. ⌜ r ≡ validPath
-        (modelsCoding .numbers (lists (now (sizes .entry)) (now (losses .entry)) (now (weights .entry)))) entries ⌝ }
+    ensures { result ≡ validPath
+        (modelsCoding.numbers (lists sizes.now losses.now weights.now)) entries }
 {
     if !path::path_has_room(
         entries,
@@ -104,10 +98,10 @@ pub fn valid_path(sizes: &[u8], losses: &[u8], weights: &[u8], entries: usize) -
 
 // The last entry, or zeros where there is none.
 fn last_entry(sizes: &[u8], losses: &[u8], weights: &[u8], entries: usize) -> Entry
-    requires { ⌜ HasPlaces (modelsCoding .numbers (lists (now sizes) (now losses) (now weights))) entries ⌝ }
-    ensures { λ r. ⌜ LastIs
-        (pathOf (modelsCoding .numbers (lists (now (sizes .entry)) (now (losses .entry)) (now (weights .entry)))) entries)
-        (model (r .size) (r .loss) (r .weight)) ⌝ }
+    requires { HasPlaces (modelsCoding.numbers (lists sizes.now losses.now weights.now)) entries }
+    ensures { LastIs
+        (pathOf (modelsCoding.numbers (lists sizes.now losses.now weights.now)) entries)
+        (model result.size result.loss result.weight) }
 {
     if entries == 0 {
         return Entry {
@@ -129,10 +123,10 @@ fn model_refusal(
     loss: u64,
     weight: u64,
 ) -> u64
-    requires { ⌜ HasPlaces (modelsCoding .numbers (lists (now sizes) (now losses) (now weights))) entries ⌝ }
-    ensures { λ r. ⌜ r ≡ refusalOf (modelChecks
-        (pathOf (modelsCoding .numbers (lists (now (sizes .entry)) (now (losses .entry)) (now (weights .entry)))) entries)
-        (model size loss weight)) ⌝ }
+    requires { HasPlaces (modelsCoding.numbers (lists sizes.now losses.now weights.now)) entries }
+    ensures { result ≡ refusalOf (modelChecks
+        (pathOf (modelsCoding.numbers (lists sizes.now losses.now weights.now)) entries)
+        (model size loss weight)) }
 {
     let last = last_entry(sizes, losses, weights, entries);
     let last_size = [last.size];
@@ -159,11 +153,11 @@ pub fn input_refusal(
     loss: u64,
     weight: u64,
 ) -> u64
-    ensures { λ r. ⌜ r ≡ refusalOf
-        (check 8 (validPath (modelsCoding .numbers (lists (now (sizes .entry)) (now (losses .entry)) (now (weights .entry)))) entries)
+    ensures { result ≡ refusalOf
+        (check 8 (validPath (modelsCoding.numbers (lists sizes.now losses.now weights.now)) entries)
         ∷ modelChecks
-        (pathOf (modelsCoding .numbers (lists (now (sizes .entry)) (now (losses .entry)) (now (weights .entry)))) entries)
-        (model size loss weight)) ⌝ }
+        (pathOf (modelsCoding.numbers (lists sizes.now losses.now weights.now)) entries)
+        (model size loss weight)) }
 {
     if !valid_path(sizes, losses, weights, entries) {
         return 8;
@@ -173,8 +167,8 @@ pub fn input_refusal(
 
 // Whether a model of this loss is passed over after a path of so many entries, whatever their sizes and weights.
 pub fn passed_over(losses: &[u8], entries: usize, loss: u64) -> bool
-    requires { ⌜ entries ≤ length (itemsOf 8 (now losses)) ⌝ }
-    ensures { λ r. ⌜ PassesOver (itemsOf 8 (now (losses .entry))) entries loss r ⌝ }
+    requires { entries ≤ length (items_of 8 losses.now) }
+    ensures { PassesOver (items_of 8 losses.now) entries loss result }
 {
     if entries == 0 {
         return false;
@@ -191,10 +185,10 @@ fn test(
     weight: u64,
     tests: Tally,
 ) -> Tested
-    requires { ⌜ (1 ≤ entries)
-        × Scannable (itemsOf 8 (now losses)) (itemsOf 2 (now weights)) entries loss weight (tests .count) ⌝ }
-    ensures { λ r. ⌜ TestsLast (itemsOf 8 (now (losses .entry))) (itemsOf 2 (now (weights .entry))) (entries - 1) loss weight (r .holds)
-        × (r .tests ≡ tallyOf (tests .count + 1)) ⌝ }
+    requires { (1 ≤ entries)
+        × Scannable (items_of 8 losses.now) (items_of 2 weights.now) entries loss weight tests.count }
+    ensures { TestsLast (items_of 8 losses.now) (items_of 2 weights.now) (entries - 1) loss weight result.holds
+        × (result.tests ≡ tally_of (tests.count + 1)) }
 {
     let at = entries - 1;
     if at == 0 {
@@ -210,10 +204,10 @@ fn test(
 
 // Tries a model from the last entry back, until a test holds. Each turn makes one test.
 fn scan(losses: &[u8], weights: &[u8], entries: usize, loss: u64, weight: u64, start: Tally) -> Kept
-    requires { ⌜ (1 ≤ entries)
-        × Scannable (itemsOf 8 (now losses)) (itemsOf 2 (now weights)) entries loss weight (start .count) ⌝ }
-    ensures { λ r. ⌜ KeepsOf
-        (itemsOf 8 (now (losses .entry))) (itemsOf 2 (now (weights .entry))) entries loss weight (start .count) r ⌝ }
+    requires { (1 ≤ entries)
+        × Scannable (items_of 8 losses.now) (items_of 2 weights.now) entries loss weight start.count }
+    ensures { KeepsOf
+        (items_of 8 losses.now) (items_of 2 weights.now) entries loss weight start.count result }
 {
     let mut i = entries;
     let mut tests = start;
@@ -240,9 +234,9 @@ pub fn try_model(
     weight: u64,
     tests: Tally,
 ) -> Kept
-    requires { ⌜ Scannable (itemsOf 8 (now losses)) (itemsOf 2 (now weights)) entries loss weight (tests .count) ⌝ }
-    ensures { λ r. ⌜ KeepsOf
-        (itemsOf 8 (now (losses .entry))) (itemsOf 2 (now (weights .entry))) entries loss weight (tests .count) r ⌝ }
+    requires { Scannable (items_of 8 losses.now) (items_of 2 weights.now) entries loss weight tests.count }
+    ensures { KeepsOf
+        (items_of 8 losses.now) (items_of 2 weights.now) entries loss weight tests.count result }
 {
     if entries == 0 {
         return Kept {
@@ -255,8 +249,8 @@ pub fn try_model(
 
 // Walks from the first entry on while the next one costs strictly less. Costs go by losses and weights.
 pub fn walk(losses: &[u8], weights: &[u8], entries: usize, p: u64, q: u64) -> usize
-    requires { ⌜ Walkable (itemsOf 8 (now losses)) (itemsOf 2 (now weights)) entries × (validPenalty p q ≡ true) ⌝ }
-    ensures { λ r. ⌜ Selects (itemsOf 8 (now (losses .entry))) (itemsOf 2 (now (weights .entry))) entries p q r ⌝ }
+    requires { Walkable (items_of 8 losses.now) (items_of 2 weights.now) entries × (validPenalty p q ≡ true) }
+    ensures { Selects (items_of 8 losses.now) (items_of 2 weights.now) entries p q result }
 {
     let last = entries - 1;
     let mut i = 0;
@@ -281,11 +275,11 @@ pub fn write_breakpoints(
     numerators: &mut [u8],
     denominators: &mut [u8],
 )
-    requires { ⌜ ListableIn (now losses) (now weights) count (now numerators) (now denominators) ⌝ }
-    ensures { λ r. ⌜ WrittenIn 8 (λ (b : Fraction). b .numerator)
-        (now (losses .entry)) (now (weights .entry)) (now (numerators .entry)) (now (numerators .exit)) count
-        × WrittenIn 2 (λ (b : Fraction). b .denominator)
-        (now (losses .entry)) (now (weights .entry)) (now (denominators .entry)) (now (denominators .exit)) count ⌝ }
+    requires { ListableIn losses.now weights.now count numerators.old denominators.old }
+    ensures { WrittenIn 8 (λ (b : Fraction). b.numerator)
+        losses.now weights.now numerators.old numerators.new count
+        × WrittenIn 2 (λ (b : Fraction). b.denominator)
+        losses.now weights.now denominators.old denominators.new count }
 {
     let mut i = 0;
     while i < count {

@@ -2,27 +2,20 @@
 // build reads the models to lists of its own. What is claimed of a call asks that the strings lent hold bytes, which its clause `held`
 // says.
 
-ghost use mathlib.Core.Path.{_≡_};
-ghost use Prim.Native.Nat.{_+_};
-ghost use lib.ListN.{length};
-ghost use Rattle·coding.specs.Coding.{outcome};
-ghost use Rattle·coding.specs.Models.{modelsCoding};
-ghost use Rattle·path.specs.Model.{model, lists};
-ghost use Rattle·byte_paths·specs.specs.Paths.{appendBytesOf, buildBytesBy, selectBytesOf, fractions, fractionsCoding, breakpointsBytesOf};
-ghost use Rattle·byte_paths·specs.specs.Inner.{BuildFits, appendEncoded, breakpointsEncoded};
-ghost use Rattle·select.specs.Select.{selectRefused};
+ghost use Rattle.std.specs.Prelude.{◌≡◌, ◌+◌, length};
+ghost use Rattle.coding.specs.Coding.{outcome};
+ghost use Rattle.coding.specs.Models.{modelsCoding};
+ghost use Rattle.path.specs.Model.{model, lists};
+ghost use Rattle.byte_paths.specs.Paths.{appendBytesOf, buildBytesBy, selectBytesOf, fractions, fractionsCoding, breakpointsBytesOf};
+ghost use Rattle.byte_paths.specs.Inner.{BuildFits, appendEncoded, breakpointsEncoded};
+ghost use Rattle.select.specs.Select.{selectRefused};
 
 pub mod entries;
 
-use coding::encode_models;
-use coding::read_models;
-use coding::store_item;
+use coding::{encode_models, read_models, store_item};
 use least::smaller;
-use path::MAX_MODELS;
-use path::PathResult;
-use path::tally;
-use select::BreakpointsResult;
-use select::SelectResult;
+use path::{MAX_MODELS, PathResult, tally};
+use select::{BreakpointsResult, SelectResult};
 
 // The most models of a build that are read: one more than there may be, so that too many stay too many.
 const MODELS_READ: usize = MAX_MODELS + 1;
@@ -37,9 +30,9 @@ fn append_whole(
     loss: u64,
     weight: u64,
 ) -> PathResult
-    requires { ⌜ modelsCoding .spare (lists (now sizes) (now losses) (now weights)) ≡ 0 ⌝ }
-    ensures { λ r. ⌜ outcome r (lists (now (sizes .exit)) (now (losses .exit)) (now (weights .exit)))
-        ≡ appendEncoded (lists (now (sizes .entry)) (now (losses .entry)) (now (weights .entry))) entries (model size loss weight) ⌝ }
+    requires { modelsCoding.spare (lists sizes.old losses.old weights.old) ≡ 0 }
+    ensures { outcome result (lists sizes.new losses.new weights.new)
+        ≡ appendEncoded (lists sizes.old losses.old weights.old) entries (model size loss weight) }
 {
     let refusal = entries::input_refusal(sizes, losses, weights, entries, size, loss, weight);
     if refusal != 0 {
@@ -79,9 +72,9 @@ pub fn append(
     loss: u64,
     weight: u64,
 ) -> PathResult
-    ensures outcome { λ r. ⌜ outcome r (lists (now (sizes .exit)) (now (losses .exit)) (now (weights .exit)))
-        ≡ appendBytesOf (lists (now (sizes .entry)) (now (losses .entry)) (now (weights .entry))) entries (model size loss weight) ⌝ }
-    ensures held { λ r. ⌜ modelsCoding .Held (lists (now (sizes .entry)) (now (losses .entry)) (now (weights .entry))) ⌝ }
+    ensures outcome { outcome result (lists sizes.new losses.new weights.new)
+        ≡ appendBytesOf (lists sizes.old losses.old weights.old) entries (model size loss weight) }
+    ensures held { modelsCoding.Held (lists sizes.old losses.old weights.old) }
 {
     if sizes.len() % 2 + losses.len() % 8 + weights.len() % 2 != 0 {
         return path::refuse(11);
@@ -102,14 +95,14 @@ fn build_items(
     loss_items: &mut [u64],
     weight_items: &mut [u64],
 ) -> PathResult
-    requires { ⌜ BuildFits
-        (lists (now sizes) (now losses) (now weights))
-        (lists (now «path_sizes») (now «path_losses») (now «path_weights»))
-        (length (now «size_items»)) (length (now «loss_items»)) (length (now «weight_items»)) ⌝ }
-    ensures { λ r. ⌜ outcome r (lists (now («path_sizes» .exit)) (now («path_losses» .exit)) (now («path_weights» .exit)))
+    requires { BuildFits
+        (lists sizes.now losses.now weights.now)
+        (lists path_sizes.old path_losses.old path_weights.old)
+        (length size_items.old) (length loss_items.old) (length weight_items.old) }
+    ensures { outcome result (lists path_sizes.new path_losses.new path_weights.new)
         ≡ buildBytesBy older
-        (lists (now (sizes .entry)) (now (losses .entry)) (now (weights .entry)))
-        (lists (now («path_sizes» .entry)) (now («path_losses» .entry)) (now («path_weights» .entry))) ⌝ }
+        (lists sizes.now losses.now weights.now)
+        (lists path_sizes.old path_losses.old path_weights.old) }
 {
     read_models(sizes, losses, weights, size_items, loss_items, weight_items);
     let made = quadratic::build_within(
@@ -146,12 +139,12 @@ pub fn build_by(
     path_losses: &mut [u8],
     path_weights: &mut [u8],
 ) -> PathResult
-    ensures outcome { λ r. ⌜ outcome r (lists (now («path_sizes» .exit)) (now («path_losses» .exit)) (now («path_weights» .exit)))
+    ensures outcome { outcome result (lists path_sizes.new path_losses.new path_weights.new)
         ≡ buildBytesBy older
-        (lists (now (sizes .entry)) (now (losses .entry)) (now (weights .entry)))
-        (lists (now («path_sizes» .entry)) (now («path_losses» .entry)) (now («path_weights» .entry))) ⌝ }
-    ensures held { λ r. ⌜ modelsCoding .Held (lists (now (sizes .entry)) (now (losses .entry)) (now (weights .entry)))
-        × modelsCoding .Held (lists (now («path_sizes» .entry)) (now («path_losses» .entry)) (now («path_weights» .entry))) ⌝ }
+        (lists sizes.now losses.now weights.now)
+        (lists path_sizes.old path_losses.old path_weights.old) }
+    ensures held { modelsCoding.Held (lists sizes.now losses.now weights.now)
+        × modelsCoding.Held (lists path_sizes.old path_losses.old path_weights.old) }
 {
     let spare = sizes.len() % 2 + losses.len() % 8 + weights.len() % 2;
     if spare + path_sizes.len() % 2 + path_losses.len() % 8 + path_weights.len() % 2 != 0 {
@@ -179,7 +172,7 @@ pub fn build_by(
 
 // The answer of a refused selection.
 fn refuse_selection(refusal: u64) -> SelectResult
-    ensures { λ r. ⌜ r ≡ selectRefused refusal ⌝ }
+    ensures { result ≡ selectRefused refusal }
 {
     SelectResult {
         refusal: refusal,
@@ -199,8 +192,8 @@ pub fn select(
     p: u64,
     q: u64,
 ) -> SelectResult
-    ensures outcome { λ r. ⌜ r ≡ selectBytesOf (lists (now (sizes .entry)) (now (losses .entry)) (now (weights .entry))) entries p q ⌝ }
-    ensures held { λ r. ⌜ modelsCoding .Held (lists (now (sizes .entry)) (now (losses .entry)) (now (weights .entry))) ⌝ }
+    ensures outcome { result ≡ selectBytesOf (lists sizes.now losses.now weights.now) entries p q }
+    ensures held { modelsCoding.Held (lists sizes.now losses.now weights.now) }
 {
     if sizes.len() % 2 + losses.len() % 8 + weights.len() % 2 != 0 {
         return refuse_selection(11);
@@ -223,7 +216,7 @@ pub fn select(
 
 // The answer of a refused listing.
 fn refuse_listing(refusal: u64) -> BreakpointsResult
-    ensures { λ r. ⌜ r ≡ record { refusal = refusal; count = 0 } ⌝ }
+    ensures { result ≡ record { refusal = refusal; count = 0 } }
 {
     BreakpointsResult {
         refusal: refusal,
@@ -240,11 +233,11 @@ fn breakpoints_whole(
     numerators: &mut [u8],
     denominators: &mut [u8],
 ) -> BreakpointsResult
-    requires { ⌜ modelsCoding .spare (lists (now sizes) (now losses) (now weights))
-        + fractionsCoding .spare (fractions (now numerators) (now denominators)) ≡ 0 ⌝ }
-    ensures { λ r. ⌜ outcome r (fractions (now (numerators .exit)) (now (denominators .exit)))
-        ≡ breakpointsEncoded (lists (now (sizes .entry)) (now (losses .entry)) (now (weights .entry))) entries
-        (fractions (now (numerators .entry)) (now (denominators .entry))) ⌝ }
+    requires { modelsCoding.spare (lists sizes.now losses.now weights.now)
+        + fractionsCoding.spare (fractions numerators.old denominators.old) ≡ 0 }
+    ensures { outcome result (fractions numerators.new denominators.new)
+        ≡ breakpointsEncoded (lists sizes.now losses.now weights.now) entries
+        (fractions numerators.old denominators.old) }
 {
     let valid = entries::valid_path(sizes, losses, weights, entries);
     let refusal = select::breakpoints_refusal(
@@ -273,11 +266,11 @@ pub fn breakpoints(
     numerators: &mut [u8],
     denominators: &mut [u8],
 ) -> BreakpointsResult
-    ensures outcome { λ r. ⌜ outcome r (fractions (now (numerators .exit)) (now (denominators .exit)))
-        ≡ breakpointsBytesOf (lists (now (sizes .entry)) (now (losses .entry)) (now (weights .entry))) entries
-        (fractions (now (numerators .entry)) (now (denominators .entry))) ⌝ }
-    ensures held { λ r. ⌜ modelsCoding .Held (lists (now (sizes .entry)) (now (losses .entry)) (now (weights .entry)))
-        × fractionsCoding .Held (fractions (now (numerators .entry)) (now (denominators .entry))) ⌝ }
+    ensures outcome { outcome result (fractions numerators.new denominators.new)
+        ≡ breakpointsBytesOf (lists sizes.now losses.now weights.now) entries
+        (fractions numerators.old denominators.old) }
+    ensures held { modelsCoding.Held (lists sizes.now losses.now weights.now)
+        × fractionsCoding.Held (fractions numerators.old denominators.old) }
 {
     let spare = sizes.len() % 2 + losses.len() % 8 + weights.len() % 2;
     if spare + numerators.len() % 8 + denominators.len() % 2 != 0 {

@@ -1,33 +1,33 @@
 -- Of the weights of a call the first 32 are kept, and one more that is 0 where it or a later one is out of range. Weights cut so are
 -- refused as all of them are, and weights that are accepted are not cut.
-use mathlib.Core.Path.{_≡_, refl, ap, sym, _∙_}
-use mathlib.Core.Bool.{true, false, cond, _&&_}
-use mathlib.Core.Logic.{⊎-elim}
-use mathlib.Core.List.{List, [], _∷_, _++_}
-use Prim.Native.Nat.{ℕ, suc, _+_, _*_, _/_, _≤_, _<_, min}
+use mathlib.Core.Path.{◌≡◌, refl, ap, sym, ◌∙◌}
+use mathlib.Core.Bool.{true, false, cond, ◌&&◌}
+use mathlib.Core.Logic.{⊎_elim}
+use mathlib.Core.List.{List, [], ◌∷◌, ◌++◌}
+use Prim.Native.Nat.{ℕ, suc, ◌+◌, ◌*◌, ◌/◌, ◌≤◌, ◌<◌, min}
 use native.Mathlib.Nat.{eq-zero-or-pos}
 use native.Mathlib.Omega.{arith}
 use lib.Dec.{leb, eqb}
-use lib.ListN.{length, getD, take, drop, set}
-use lib.Seq.{getD-at, getD-take, set-at, take-suc, length-take-le}
+use lib.ListN.{length, get_or, take, drop, set}
+use lib.Seq.{get_or_at, get_or-take, set_at, take-suc, length-take-le}
 use borrow.Author.Tests.{leb-true, lt-leb, eqb-true}
-use Rattle·layout.specs.Item.{item}
-use Rattle·layout.specs.Items.{itemsTo, itemsOf}
-use Rattle·layout.proofs.ItemLists.{length-items, take-items}
-use Rattle·coding.specs.Coding.{unsigneds}
-use Rattle·coding.proofs.Strings.{items-back}
-use Rattle·coding.proofs.Cutting.{Cutting}
-use Rattle·path.specs.Refusal.{Check, check, refusalOf, weightInRange}
-use Rattle·path.proofs.Checks.{both, passed, both-pass, passes-on, fails-early}
-use Rattle·segment.specs.Segment.{maxSamples}
-use Rattle·least.specs.Segmentation.{maxSegments}
-use Rattle·weights.specs.Weights.{allInRange, rising, fitting, weightChecks}
-use Rattle·weights.specs.Inner.{folded}
-use Rattle·weights.proofs.Steps.{range-turn, range-end}
-use Rattle·weights.proofs.Folds.{folded-few, folded-checks}
-use Rattle·signal.specs.SignalPath.{validLimit, validLen, inputChecks}
-use Rattle·byte_signals·specs.specs.Inner.{readWeights}
-use Rattle·byte_signals·proofs.proofs.SignalCuts.{check-cut}
+use Rattle.layout.specs.Item.{item}
+use Rattle.layout.specs.Items.{itemsTo, items_of}
+use Rattle.layout.proofs.ItemLists.{length-items, take-items}
+use Rattle.coding.specs.Coding.{unsigneds}
+use Rattle.coding.proofs.Strings.{items_back}
+use Rattle.coding.proofs.Cutting.{Cutting}
+use Rattle.path.specs.Refusal.{Check, check, refusalOf, weightInRange}
+use Rattle.path.proofs.Checks.{both, passed, both-pass, passes_on, fails-early}
+use Rattle.segment.specs.Segment.{maxSamples}
+use Rattle.least.specs.Segmentation.{maxSegments}
+use Rattle.weights.specs.Weights.{allInRange, rising, fitting, weightChecks}
+use Rattle.weights.specs.Inner.{folded}
+use Rattle.weights.proofs.Steps.{range-turn, range-end}
+use Rattle.weights.proofs.Folds.{folded-few, folded-checks}
+use Rattle.signal.specs.SignalPath.{validLimit, validLen, inputChecks}
+use Rattle.byte_signals.specs.Inner.{readWeights}
+use Rattle.byte_signals.proofs.SignalCuts.{check-cut}
 
 -- Weights are only read, and cut so.
 abbrev pub weightsCut : Cutting (unsigneds 2)
@@ -36,36 +36,36 @@ weightsCut =
       taken = folded maxSegments;
       rejoined = λ xs front. xs;
       Fits = λ b xs. Unit {0};
-      read = λ b xs. folded maxSegments (itemsOf 2 b);
+      read = λ b xs. folded maxSegments (items_of 2 b);
       left = λ t b xs. b;
       parts = λ xs. refl;
       reads = λ b xs h. refl;
-      writes = λ b held whole xs h. sym (items-back 2 b held whole);
+      writes = λ b held whole xs h. sym (items_back 2 b held whole);
       stays = λ b. refl;
     }
 
 -- An item of many.
-item-at : (w : List ℕ) (i n : ℕ) → i < n → getD (itemsTo 2 w n) i 0 ≡ item 2 w (2 * i)
+item-at : (w : List ℕ) (i n : ℕ) → i < n → get_or (itemsTo 2 w n) i 0 ≡ item 2 w (2 * i)
 unfolding itemsTo
 item-at w i n h =
-    sym (getD-take (suc i) (itemsTo 2 w n) i 0 (omega arith))
-    ∙ ap (λ (xs : List ℕ). getD xs i 0) (take-items 2 w (suc i) n h)
-    ∙ getD-at (itemsTo 2 w i) (item 2 w (2 * i)) [] 0 i (length-items 2 w i)
+    sym (get_or-take (suc i) (itemsTo 2 w n) i 0 (omega arith))
+    ∙ ap (λ (xs : List ℕ). get_or xs i 0) (take-items 2 w (suc i) n h)
+    ∙ get_or_at (itemsTo 2 w i) (item 2 w (2 * i)) [] 0 i (length-items 2 w i)
 
 -- The range of the weights from one on.
 pub rest-turn : (w : List ℕ) (i : ℕ) → i < length w / 2
-    → allInRange (drop i (itemsOf 2 w)) ≡ (weightInRange (item 2 w (2 * i)) && allInRange (drop (i + 1) (itemsOf 2 w)))
+    → allInRange (drop i (items_of 2 w)) ≡ (weightInRange (item 2 w (2 * i)) && allInRange (drop (i + 1) (items_of 2 w)))
 rest-turn w i h =
-    range-turn (itemsOf 2 w) i (omega (arith, length-items 2 w (length w / 2)))
-    ∙ ap (λ (v : ℕ). weightInRange v && allInRange (drop (i + 1) (itemsOf 2 w))) (item-at w i (length w / 2) h)
+    range-turn (items_of 2 w) i (omega (arith, length-items 2 w (length w / 2)))
+    ∙ ap (λ (v : ℕ). weightInRange v && allInRange (drop (i + 1) (items_of 2 w))) (item-at w i (length w / 2) h)
 
-pub rest-end : (w : List ℕ) (i : ℕ) → length w / 2 ≤ i → allInRange (drop i (itemsOf 2 w)) ≡ true
-rest-end w i h = range-end (itemsOf 2 w) i (omega (arith, length-items 2 w (length w / 2)))
+pub rest_end : (w : List ℕ) (i : ℕ) → length w / 2 ≤ i → allInRange (drop i (items_of 2 w)) ≡ true
+rest_end w i h = range-end (items_of 2 w) i (omega (arith, length-items 2 w (length w / 2)))
 
 -- What is read of the weights, k of them.
 module _ (w : List ℕ) (k : ℕ) (e : k ≡ min (length w / 2) readWeights) where
   abbrev all : List ℕ
-  all = itemsOf 2 w
+  all = items_of 2 w
 
   long : length all ≡ length w / 2
   long = length-items 2 w (length w / 2)
@@ -76,34 +76,34 @@ module _ (w : List ℕ) (k : ℕ) (e : k ≡ min (length w / 2) readWeights) whe
 
   -- Of many the first 32 and one more.
   module _ (many : maxSegments < k) where
-    kept-are : itemsTo 2 w k ≡ take maxSegments all ++ (getD all maxSegments 0 ∷ [])
+    kept-are : itemsTo 2 w k ≡ take maxSegments all ++ (get_or all maxSegments 0 ∷ [])
     kept-are =
         let same : k ≡ suc maxSegments = omega arith in
         ap (itemsTo 2 w) same
         ∙ sym (take-items 2 w (suc maxSegments) (length w / 2) (omega arith))
         ∙ take-suc all maxSegments 0 (omega (arith, long))
 
-    folds-to : (z : ℕ) → cond (allInRange (drop maxSegments all)) (getD all maxSegments 0) 0 ≡ z → take maxSegments all ++ (z ∷ []) ≡ folded maxSegments all
+    folds-to : (z : ℕ) → cond (allInRange (drop maxSegments all)) (get_or all maxSegments 0) 0 ≡ z → take maxSegments all ++ (z ∷ []) ≡ folded maxSegments all
     unfolding folded
     folds-to z f = rw (lt-leb (length all) maxSegments (omega (arith, long)), f)
 
     -- The one more is its own where those after the first 32 are in range, and else it is set to 0.
     pub all-kept : allInRange (drop maxSegments all) ≡ true → itemsTo 2 w k ≡ folded maxSegments all
-    all-kept f = kept-are ∙ folds-to (getD all maxSegments 0) (rw f)
+    all-kept f = kept-are ∙ folds-to (get_or all maxSegments 0) (rw f)
 
     pub last-spoilt : allInRange (drop maxSegments all) ≡ false → set (itemsTo 2 w k) maxSegments 0 ≡ folded maxSegments all
     last-spoilt f =
         ap (λ (xs : List ℕ). set xs maxSegments 0) kept-are
-        ∙ set-at (take maxSegments all) (getD all maxSegments 0) [] 0 maxSegments (length-take-le maxSegments all (omega (arith, long)))
+        ∙ set_at (take maxSegments all) (get_or all maxSegments 0) [] 0 maxSegments (length-take-le maxSegments all (omega (arith, long)))
         ∙ folds-to 0 (rw f)
 
 -- Checks that decide alike do so after weights that are refused alike.
 pub weights-first : (vs ws : List ℕ) (limit : ℕ) (ds es : List Check) → refusalOf (weightChecks vs limit) ≡ refusalOf (weightChecks ws limit)
     → refusalOf ds ≡ refusalOf es → refusalOf (weightChecks vs limit ++ ds) ≡ refusalOf (weightChecks ws limit ++ es)
 weights-first vs ws limit ds es e f =
-    ⊎-elim
+    ⊎_elim
     (λ (z : refusalOf (weightChecks vs limit) ≡ 0).
-    passes-on (weightChecks vs limit) ds refl z ∙ f ∙ sym (passes-on (weightChecks ws limit) es refl (sym e ∙ z)))
+    passes_on (weightChecks vs limit) ds refl z ∙ f ∙ sym (passes_on (weightChecks ws limit) es refl (sym e ∙ z)))
     (λ (p : 0 < refusalOf (weightChecks vs limit)).
     fails-early (weightChecks vs limit) ds refl (λ z. omega arith) ∙ e ∙ sym (fails-early (weightChecks ws limit) es refl (λ z. omega arith)))
     (eq-zero-or-pos (refusalOf (weightChecks vs limit)))
@@ -120,17 +120,17 @@ weighed-cut n limit d ws ds es few e =
 fitting-few : (ws : List ℕ) (limit : ℕ) → fitting ws limit ≡ true → length ws ≤ limit
 unfolding fitting
 fitting-few [] limit h = omega arith
-fitting-few (w ∷ ws) limit h = omega (arith, eqb-true (length (w ∷ ws)) limit (both (eqb (length (w ∷ ws)) limit) (rising (w ∷ ws)) h .0))
+fitting-few (w ∷ ws) limit h = omega (arith, eqb-true (length (w ∷ ws)) limit (both (eqb (length (w ∷ ws)) limit) (rising (w ∷ ws)) h).0)
 
 -- So accepted weights are not cut.
 pub accepted-weights : (n limit d : ℕ) (ws : List ℕ) (ds : List Check) → refusalOf (inputChecks n limit d ws ++ ds) ≡ 0 → folded maxSegments ws ≡ ws
 accepted-weights n limit d ws ds h =
-    let first = both-pass (inputChecks n limit d ws) ds refl h .0 in
+    let first = (both-pass (inputChecks n limit d ws) ds refl h).0 in
     let a = passed (check 1 (leb 1 n)) (check 2 (leb n maxSamples) ∷ check 3 (validLimit limit) ∷ check 13 (validLen n d) ∷ weightChecks ws limit) (omega arith) first in
-    let b = passed (check 2 (leb n maxSamples)) (check 3 (validLimit limit) ∷ check 13 (validLen n d) ∷ weightChecks ws limit) (omega arith) (a .1) in
-    let c = passed (check 3 (validLimit limit)) (check 13 (validLen n d) ∷ weightChecks ws limit) (omega arith) (b .1) in
-    let v = passed (check 13 (validLen n d)) (weightChecks ws limit) (omega arith) (c .1) in
-    let five = passed (check 5 (allInRange ws)) (check 14 (fitting ws limit) ∷ []) (omega arith) (v .1) in
-    let fourteen = passed (check 14 (fitting ws limit)) [] (omega arith) (five .1) in
-    let few = leb-true limit maxSegments (both (leb 1 limit) (leb limit maxSegments) (c .0) .1) in
-    folded-few maxSegments ws (omega (arith, few, fitting-few ws limit (fourteen .0)))
+    let b = passed (check 2 (leb n maxSamples)) (check 3 (validLimit limit) ∷ check 13 (validLen n d) ∷ weightChecks ws limit) (omega arith) a.1 in
+    let c = passed (check 3 (validLimit limit)) (check 13 (validLen n d) ∷ weightChecks ws limit) (omega arith) b.1 in
+    let v = passed (check 13 (validLen n d)) (weightChecks ws limit) (omega arith) c.1 in
+    let five = passed (check 5 (allInRange ws)) (check 14 (fitting ws limit) ∷ []) (omega arith) v.1 in
+    let fourteen = passed (check 14 (fitting ws limit)) [] (omega arith) five.1 in
+    let few = leb-true limit maxSegments (both (leb 1 limit) (leb limit maxSegments) c.0).1 in
+    folded-few maxSegments ws (omega (arith, few, fitting-few ws limit fourteen.0))

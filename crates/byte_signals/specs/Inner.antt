@@ -1,12 +1,10 @@
 -- What the inner functions ask for. A reader of the calls need not believe anything that stands here.
-use mathlib.Core.Path.{_≡_}
-use Prim.Native.Nat.{ℕ, suc, _+_, _/_, min}
-use lib.ListN.{length}
-use Rattle·coding.specs.Inner.{ListsFit}
-use Rattle·segment.specs.Segment.{maxSamples}
-use Rattle·least.specs.Segmentation.{maxSegments}
-use Rattle·signal.specs.SignalPath.{PathBuffers}
-use Rattle·byte_signals·specs.specs.Signals.{SignalStrings, signalCoding, pathCoding, SplitStrings, splitCoding}
+use Rattle.std.specs.Prelude.{◌≡◌, ℕ, suc, ◌+◌, ◌/◌, min, length}
+use Rattle.coding.specs.Inner.{ListsFit}
+use Rattle.segment.specs.Segment.{maxSamples}
+use Rattle.least.specs.Segmentation.{maxSegments}
+use Rattle.signal.specs.SignalPath.{PathBuffers}
+use Rattle.byte_signals.specs.Signals.{SignalStrings, signalCoding, pathCoding, SplitStrings, splitCoding}
 
 -- The most samples that are read, one more than a signal may have.
 abbrev pub readSamples : ℕ
@@ -18,19 +16,19 @@ readWeights = suc maxSegments
 
 -- Two lists have as many places as there are samples and weights to keep.
 pub record InputFits (x : SignalStrings) (n v : ℕ) : Type 0 where
-  pub samples-fit : n ≡ min (length (x .samples) / 2) readSamples
-  pub weights-fit : v ≡ min (length (x .weights) / 2) readWeights
+  pub samples-fit : n ≡ min (length x.samples / 2) readSamples
+  pub weights-fit : v ≡ min (length x.weights / 2) readWeights
 
 -- No byte is left over, and five lists have as many places as there are items of what is read and of the buffers to look at.
 pub record PathFits (x : SignalStrings) (b : PathBuffers) (n v s k w : ℕ) : Type 0 where
-  pub whole : signalCoding .spare x + pathCoding .spare b ≡ 0
+  pub whole : signalCoding.spare x + pathCoding.spare b ≡ 0
   pub input : InputFits x n v
-  pub fit : ListsFit maxSegments (b .lists) s k w
+  pub fit : ListsFit maxSegments b.lists s k w
 
 -- No byte is left over, and seven lists have as many places as there are items of what is read and of the buffers to look at.
 pub record SplitFits (x : SignalStrings) (b : SplitStrings) (n v a l s k w : ℕ) : Type 0 where
-  pub whole : signalCoding .spare x + splitCoding .spare b ≡ 0
+  pub whole : signalCoding.spare x + splitCoding.spare b ≡ 0
   pub input : InputFits x n v
-  pub starts-fit : a ≡ min (length (b .starts) / 2) maxSegments
-  pub levels-fit : l ≡ min (length (b .levels) / 2) maxSegments
-  pub fit : ListsFit maxSegments (b .path .lists) s k w
+  pub starts_fit : a ≡ min (length b.starts / 2) maxSegments
+  pub levels-fit : l ≡ min (length b.levels / 2) maxSegments
+  pub fit : ListsFit maxSegments b.path.lists s k w

@@ -2,30 +2,22 @@
 // losses eight, all with the low byte first. What is claimed of a call asks that the strings lent hold bytes, which its clause `held`
 // says.
 
-ghost use mathlib.Core.Path.{_≡_};
-ghost use Prim.Native.Nat.{_/_, min};
-ghost use lib.ListN.{length, drop};
-ghost use Rattle·coding.specs.Coding.{outcome};
-ghost use Rattle·layout.specs.Items.{itemsOf};
-ghost use Rattle·path.specs.Model.{lists};
-ghost use Rattle·weights.specs.Weights.{allInRange};
-ghost use Rattle·weights.specs.Inner.{folded};
-ghost use Rattle·least.specs.Segmentation.{maxSegments};
-ghost use Rattle·signal.specs.SignalPath.{pathBuffers};
-ghost use Rattle·byte_signals·specs.specs.Signals.{signalStrings, signalCoding, pathCoding, signalPathBytesOf, splitStrings, splitCoding, splitBytesOf};
-ghost use Rattle·byte_signals·specs.specs.Inner.{readWeights, PathFits, SplitFits};
-use coding::encode_models;
-use coding::encode_segments;
-use coding::read_models;
-use coding::read_segments;
-use layout::get;
-use layout::read_i16s;
-use layout::read_items;
-use least::MAX_SEGMENTS;
-use least::smaller;
+ghost use Rattle.std.specs.Prelude.{◌≡◌, ◌/◌, min, length, drop};
+ghost use Rattle.coding.specs.Coding.{outcome};
+ghost use Rattle.layout.specs.Items.{items_of};
+ghost use Rattle.path.specs.Model.{lists};
+ghost use Rattle.weights.specs.Weights.{allInRange};
+ghost use Rattle.weights.specs.Inner.{folded};
+ghost use Rattle.least.specs.Segmentation.{maxSegments};
+ghost use Rattle.signal.specs.SignalPath.{pathBuffers};
+ghost use Rattle.byte_signals.specs.Signals.{signalStrings, signalCoding, pathCoding, signalPathBytesOf, splitStrings, splitCoding, splitBytesOf};
+ghost use Rattle.byte_signals.specs.Inner.{readWeights, PathFits, SplitFits};
+
+use coding::{encode_models, encode_segments, read_models, read_segments};
+use layout::{get, read_i16s, read_items};
+use least::{MAX_SEGMENTS, smaller};
 use segment::MAX_SAMPLES;
-use signal::SignalPathResult;
-use signal::SplitResult;
+use signal::{SignalPathResult, SplitResult};
 
 // The most samples that are read, one more than a signal may have: too many stay too many.
 pub const READ_SAMPLES: usize = MAX_SAMPLES + 1;
@@ -35,7 +27,7 @@ const READ_WEIGHTS: usize = MAX_SEGMENTS + 1;
 
 // Whether the weights after the first 32 are in range.
 fn rest_in_range(weights: &[u8]) -> bool
-    ensures { λ r. ⌜ r ≡ allInRange (drop maxSegments (itemsOf 2 (now (weights .entry)))) ⌝ }
+    ensures { result ≡ allInRange (drop maxSegments (items_of 2 weights.now)) }
 {
     let count = weights.len() / 2;
     let mut i = MAX_SEGMENTS;
@@ -51,8 +43,8 @@ fn rest_in_range(weights: &[u8]) -> bool
 // Reads the first weights, 33 at most, and looks at all. Where one after the first 32 is out of range, the last one read is 0, so that
 // those read are refused as all of them are.
 fn read_weights(weights: &[u8], items: &mut [u64])
-    requires { ⌜ length (now items) ≡ min (length (now weights) / 2) readWeights ⌝ }
-    ensures { λ r. ⌜ now (items .exit) ≡ folded maxSegments (itemsOf 2 (now (weights .entry))) ⌝ }
+    requires { length items.old ≡ min (length weights.now / 2) readWeights }
+    ensures { items.new ≡ folded maxSegments (items_of 2 weights.now) }
 {
     read_items(weights, 2, items);
     if items.len() <= MAX_SEGMENTS {
@@ -79,19 +71,19 @@ fn path_items(
     loss_items: &mut [u64],
     path_weight_items: &mut [u64],
 ) -> SignalPathResult
-    requires { ⌜ PathFits
-        (signalStrings (now samples) (now weights))
-        (pathBuffers (lists (now «path_sizes») (now «path_losses») (now «path_weights»)) (now scratch))
-        (length (now «sample_items»)) (length (now «weight_items»))
-        (length (now «size_items»)) (length (now «loss_items»)) (length (now «path_weight_items»)) ⌝ }
-    ensures { λ r. ⌜ outcome r
+    requires { PathFits
+        (signalStrings samples.now weights.now)
+        (pathBuffers (lists path_sizes.old path_losses.old path_weights.old) scratch.old)
+        (length sample_items.old) (length weight_items.old)
+        (length size_items.old) (length loss_items.old) (length path_weight_items.old) }
+    ensures { outcome result
         (pathBuffers
-        (lists (now («path_sizes» .exit)) (now («path_losses» .exit)) (now («path_weights» .exit)))
-        (now (scratch .exit)))
-        ≡ signalPathBytesOf (signalStrings (now (samples .entry)) (now (weights .entry))) «max_segments» «min_segment_len»
+        (lists path_sizes.new path_losses.new path_weights.new)
+        scratch.new)
+        ≡ signalPathBytesOf (signalStrings samples.now weights.now) max_segments min_segment_len
         (pathBuffers
-        (lists (now («path_sizes» .entry)) (now («path_losses» .entry)) (now («path_weights» .entry)))
-        (now (scratch .entry))) ⌝ }
+        (lists path_sizes.old path_losses.old path_weights.old)
+        scratch.old) }
 {
     read_i16s(samples, sample_items);
     read_weights(weights, weight_items);
@@ -137,18 +129,18 @@ pub fn signal_path(
     path_weights: &mut [u8],
     scratch: &mut [u8],
 ) -> SignalPathResult
-    ensures outcome { λ r. ⌜ outcome r
+    ensures outcome { outcome result
         (pathBuffers
-        (lists (now («path_sizes» .exit)) (now («path_losses» .exit)) (now («path_weights» .exit)))
-        (now (scratch .exit)))
-        ≡ signalPathBytesOf (signalStrings (now (samples .entry)) (now (weights .entry))) «max_segments» «min_segment_len»
+        (lists path_sizes.new path_losses.new path_weights.new)
+        scratch.new)
+        ≡ signalPathBytesOf (signalStrings samples.now weights.now) max_segments min_segment_len
         (pathBuffers
-        (lists (now («path_sizes» .entry)) (now («path_losses» .entry)) (now («path_weights» .entry)))
-        (now (scratch .entry))) ⌝ }
-    ensures held { λ r. ⌜ signalCoding .Held (signalStrings (now (samples .entry)) (now (weights .entry)))
-        × pathCoding .Held (pathBuffers
-        (lists (now («path_sizes» .entry)) (now («path_losses» .entry)) (now («path_weights» .entry)))
-        (now (scratch .entry))) ⌝ }
+        (lists path_sizes.old path_losses.old path_weights.old)
+        scratch.old) }
+    ensures held { signalCoding.Held (signalStrings samples.now weights.now)
+        × pathCoding.Held (pathBuffers
+        (lists path_sizes.old path_losses.old path_weights.old)
+        scratch.old) }
 {
     let spare = samples.len() % 2
         + weights.len() % 2
@@ -210,22 +202,22 @@ fn split_items(
     loss_items: &mut [u64],
     path_weight_items: &mut [u64],
 ) -> SplitResult
-    requires { ⌜ SplitFits
-        (signalStrings (now samples) (now weights))
-        (splitStrings (now starts) (now levels) (lists (now «path_sizes») (now «path_losses») (now «path_weights»)) (now scratch))
-        (length (now «sample_items»)) (length (now «weight_items»))
-        (length (now «start_items»)) (length (now «level_items»))
-        (length (now «size_items»)) (length (now «loss_items»)) (length (now «path_weight_items»)) ⌝ }
-    ensures { λ r. ⌜ outcome r
+    requires { SplitFits
+        (signalStrings samples.now weights.now)
+        (splitStrings starts.old levels.old (lists path_sizes.old path_losses.old path_weights.old) scratch.old)
+        (length sample_items.old) (length weight_items.old)
+        (length start_items.old) (length level_items.old)
+        (length size_items.old) (length loss_items.old) (length path_weight_items.old) }
+    ensures { outcome result
         (splitStrings
-        (now (starts .exit)) (now (levels .exit))
-        (lists (now («path_sizes» .exit)) (now («path_losses» .exit)) (now («path_weights» .exit)))
-        (now (scratch .exit)))
-        ≡ splitBytesOf (signalStrings (now (samples .entry)) (now (weights .entry))) «max_segments» «min_segment_len» p q
+        starts.new levels.new
+        (lists path_sizes.new path_losses.new path_weights.new)
+        scratch.new)
+        ≡ splitBytesOf (signalStrings samples.now weights.now) max_segments min_segment_len p q
         (splitStrings
-        (now (starts .entry)) (now (levels .entry))
-        (lists (now («path_sizes» .entry)) (now («path_losses» .entry)) (now («path_weights» .entry)))
-        (now (scratch .entry))) ⌝ }
+        starts.old levels.old
+        (lists path_sizes.old path_losses.old path_weights.old)
+        scratch.old) }
 {
     read_i16s(samples, sample_items);
     read_weights(weights, weight_items);
@@ -281,21 +273,21 @@ pub fn split(
     path_weights: &mut [u8],
     scratch: &mut [u8],
 ) -> SplitResult
-    ensures outcome { λ r. ⌜ outcome r
+    ensures outcome { outcome result
         (splitStrings
-        (now (starts .exit)) (now (levels .exit))
-        (lists (now («path_sizes» .exit)) (now («path_losses» .exit)) (now («path_weights» .exit)))
-        (now (scratch .exit)))
-        ≡ splitBytesOf (signalStrings (now (samples .entry)) (now (weights .entry))) «max_segments» «min_segment_len» p q
+        starts.new levels.new
+        (lists path_sizes.new path_losses.new path_weights.new)
+        scratch.new)
+        ≡ splitBytesOf (signalStrings samples.now weights.now) max_segments min_segment_len p q
         (splitStrings
-        (now (starts .entry)) (now (levels .entry))
-        (lists (now («path_sizes» .entry)) (now («path_losses» .entry)) (now («path_weights» .entry)))
-        (now (scratch .entry))) ⌝ }
-    ensures held { λ r. ⌜ signalCoding .Held (signalStrings (now (samples .entry)) (now (weights .entry)))
-        × splitCoding .Held (splitStrings
-        (now (starts .entry)) (now (levels .entry))
-        (lists (now («path_sizes» .entry)) (now («path_losses» .entry)) (now («path_weights» .entry)))
-        (now (scratch .entry))) ⌝ }
+        starts.old levels.old
+        (lists path_sizes.old path_losses.old path_weights.old)
+        scratch.old) }
+    ensures held { signalCoding.Held (signalStrings samples.now weights.now)
+        × splitCoding.Held (splitStrings
+        starts.old levels.old
+        (lists path_sizes.old path_losses.old path_weights.old)
+        scratch.old) }
 {
     let spare = samples.len() % 2
         + weights.len() % 2

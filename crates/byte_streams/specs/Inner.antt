@@ -1,24 +1,21 @@
 -- What the inner functions ask for. A reader of the calls need not believe anything that stands here.
-use mathlib.Core.Path.{_≡_}
-use mathlib.Core.List.{List}
-use Prim.Native.Nat.{ℕ, _+_, _/_, min}
-use lib.ListN.{length}
-use Rattle·coding.specs.Coding.{signeds}
-use Rattle·coding.specs.Inner.{ListsFit}
-use Rattle·stream.specs.Table.{maxRows}
-use Rattle·stream.specs.Extend.{StreamBuffers}
-use Rattle·byte_signals.specs.Inner.{readSamples}
-use Rattle·byte_streams·specs.specs.Streams.{streamCoding, SegmentStrings, segmentsCoding}
+use Rattle.std.specs.Prelude.{◌≡◌, List, ℕ, ◌+◌, ◌/◌, min, length}
+use Rattle.coding.specs.Coding.{signeds}
+use Rattle.coding.specs.Inner.{ListsFit}
+use Rattle.stream.specs.Table.{maxRows}
+use Rattle.stream.specs.Extend.{StreamBuffers}
+use Rattle.byte_signals.specs.Inner.{readSamples}
+use Rattle.byte_streams.specs.Streams.{streamCoding, SegmentStrings, segmentsCoding}
 
 -- No byte is left over, and four lists have as many places as there are samples and items of the path's buffers to look at.
 pub record ExtendFits (samples : List ℕ) (b : StreamBuffers) (n s k w : ℕ) : Type 0 where
-  pub whole : signeds .spare samples + streamCoding .spare b ≡ 0
+  pub whole : signeds.spare samples + streamCoding.spare b ≡ 0
   pub samples-fit : n ≡ min (length samples / 2) readSamples
-  pub fit : ListsFit maxRows (b .path) s k w
+  pub fit : ListsFit maxRows b.path s k w
 
 -- No byte is left over, and three lists have as many places as there are samples and items of the buffers to look at.
 pub record SplitFromFits (samples : List ℕ) (b : SegmentStrings) (n a l : ℕ) : Type 0 where
-  pub whole : signeds .spare samples + segmentsCoding .spare b ≡ 0
+  pub whole : signeds.spare samples + segmentsCoding.spare b ≡ 0
   pub samples-fit : n ≡ min (length samples / 2) readSamples
-  pub starts-fit : a ≡ min (length (b .starts) / 2) maxRows
-  pub levels-fit : l ≡ min (length (b .levels) / 2) maxRows
+  pub starts_fit : a ≡ min (length b.starts / 2) maxRows
+  pub levels-fit : l ≡ min (length b.levels / 2) maxRows

@@ -2,24 +2,19 @@
 // two without one, losses eight, all with the low byte first. The table is handed on as it is. What is claimed of a call
 // asks that the strings lent hold bytes, and that a new sample is of 16 bits, which its clause `held` says.
 
-ghost use mathlib.Core.Path.{_≡_};
-ghost use lib.ListN.{length};
-ghost use Rattle·coding.specs.Coding.{outcome, signeds};
-ghost use Rattle·path.specs.Model.{lists};
-ghost use Rattle·segment.specs.Segment.{Sample16};
-ghost use Rattle·stream.specs.Extend.{streamBuffers};
-ghost use Rattle·byte_streams·specs.specs.Streams.{streamCoding, extendBytesOf, segmentStrings, segmentsCoding, splitFromBytesOf};
-ghost use Rattle·byte_streams·specs.specs.Inner.{ExtendFits, SplitFromFits};
+ghost use Rattle.std.specs.Prelude.{◌≡◌, length};
+ghost use Rattle.coding.specs.Coding.{outcome, signeds};
+ghost use Rattle.path.specs.Model.{lists};
+ghost use Rattle.segment.specs.Segment.{Sample16};
+ghost use Rattle.stream.specs.Extend.{streamBuffers};
+ghost use Rattle.byte_streams.specs.Streams.{streamCoding, extendBytesOf, segmentStrings, segmentsCoding, splitFromBytesOf};
+ghost use Rattle.byte_streams.specs.Inner.{ExtendFits, SplitFromFits};
+
 use byte_signals::READ_SAMPLES;
-use coding::encode_models;
-use coding::encode_segments;
-use coding::read_models;
-use coding::read_segments;
+use coding::{encode_models, encode_segments, read_models, read_segments};
 use layout::read_i16s;
 use least::smaller;
-use stream::ExtendResult;
-use stream::MAX_ROWS;
-use stream::SplitFromResult;
+use stream::{ExtendResult, MAX_ROWS, SplitFromResult};
 
 // An extension by lists with as many places as there are items to look at.
 fn extend_items(
@@ -35,18 +30,18 @@ fn extend_items(
     loss_items: &mut [u64],
     path_weight_items: &mut [u64],
 ) -> ExtendResult
-    requires { ⌜ ExtendFits
-        (now samples) (streamBuffers (now table) (lists (now «path_sizes») (now «path_losses») (now «path_weights»)))
-        (length (now «sample_items»))
-        (length (now «size_items»)) (length (now «loss_items»)) (length (now «path_weight_items»)) ⌝ }
-    ensures { λ r. ⌜ outcome r
+    requires { ExtendFits
+        samples.now (streamBuffers table.old (lists path_sizes.old path_losses.old path_weights.old))
+        (length sample_items.old)
+        (length size_items.old) (length loss_items.old) (length path_weight_items.old) }
+    ensures { outcome result
         (streamBuffers
-        (now (table .exit))
-        (lists (now («path_sizes» .exit)) (now («path_losses» .exit)) (now («path_weights» .exit))))
-        ≡ extendBytesOf (now (samples .entry)) sample «max_segments»
+        table.new
+        (lists path_sizes.new path_losses.new path_weights.new))
+        ≡ extendBytesOf samples.now sample max_segments
         (streamBuffers
-        (now (table .entry))
-        (lists (now («path_sizes» .entry)) (now («path_losses» .entry)) (now («path_weights» .entry)))) ⌝ }
+        table.old
+        (lists path_sizes.old path_losses.old path_weights.old)) }
 {
     read_i16s(samples, sample_items);
     read_models(
@@ -88,18 +83,18 @@ pub fn extend(
     path_losses: &mut [u8],
     path_weights: &mut [u8],
 ) -> ExtendResult
-    ensures outcome { λ r. ⌜ outcome r
+    ensures outcome { outcome result
         (streamBuffers
-        (now (table .exit))
-        (lists (now («path_sizes» .exit)) (now («path_losses» .exit)) (now («path_weights» .exit))))
-        ≡ extendBytesOf (now (samples .entry)) sample «max_segments»
+        table.new
+        (lists path_sizes.new path_losses.new path_weights.new))
+        ≡ extendBytesOf samples.now sample max_segments
         (streamBuffers
-        (now (table .entry))
-        (lists (now («path_sizes» .entry)) (now («path_losses» .entry)) (now («path_weights» .entry)))) ⌝ }
-    ensures held { λ r. ⌜ signeds .Held (now (samples .entry)) × Sample16 sample
-        × streamCoding .Held (streamBuffers
-        (now (table .entry))
-        (lists (now («path_sizes» .entry)) (now («path_losses» .entry)) (now («path_weights» .entry)))) ⌝ }
+        table.old
+        (lists path_sizes.old path_losses.old path_weights.old)) }
+    ensures held { signeds.Held samples.now × Sample16 sample
+        × streamCoding.Held (streamBuffers
+        table.old
+        (lists path_sizes.old path_losses.old path_weights.old)) }
 {
     let spare = samples.len() % 2
         + path_sizes.len() % 2
@@ -147,12 +142,12 @@ fn split_from_items(
     start_items: &mut [u16],
     level_items: &mut [i16],
 ) -> SplitFromResult
-    requires { ⌜ SplitFromFits
-        (now samples) (segmentStrings (now starts) (now levels))
-        (length (now «sample_items»)) (length (now «start_items»)) (length (now «level_items»)) ⌝ }
-    ensures { λ r. ⌜ outcome r (segmentStrings (now (starts .exit)) (now (levels .exit)))
-        ≡ splitFromBytesOf (now (samples .entry)) «max_segments» p q (now (table .entry))
-        (segmentStrings (now (starts .entry)) (now (levels .entry))) ⌝ }
+    requires { SplitFromFits
+        samples.now (segmentStrings starts.old levels.old)
+        (length sample_items.old) (length start_items.old) (length level_items.old) }
+    ensures { outcome result (segmentStrings starts.new levels.new)
+        ≡ splitFromBytesOf samples.now max_segments p q table.now
+        (segmentStrings starts.old levels.old) }
 {
     read_i16s(samples, sample_items);
     read_segments(starts, levels, start_items, level_items);
@@ -179,11 +174,11 @@ pub fn split_from(
     starts: &mut [u8],
     levels: &mut [u8],
 ) -> SplitFromResult
-    ensures outcome { λ r. ⌜ outcome r (segmentStrings (now (starts .exit)) (now (levels .exit)))
-        ≡ splitFromBytesOf (now (samples .entry)) «max_segments» p q (now (table .entry))
-        (segmentStrings (now (starts .entry)) (now (levels .entry))) ⌝ }
-    ensures held { λ r. ⌜ signeds .Held (now (samples .entry))
-        × segmentsCoding .Held (segmentStrings (now (starts .entry)) (now (levels .entry))) ⌝ }
+    ensures outcome { outcome result (segmentStrings starts.new levels.new)
+        ≡ splitFromBytesOf samples.now max_segments p q table.now
+        (segmentStrings starts.old levels.old) }
+    ensures held { signeds.Held samples.now
+        × segmentsCoding.Held (segmentStrings starts.old levels.old) }
 {
     if samples.len() % 2 + starts.len() % 2 + levels.len() % 2 != 0 {
         return SplitFromResult {

@@ -1,29 +1,29 @@
 -- A call looks only at the first items of each string. A cutting says of a coding how many these are, and what the functions that
 -- read and write them leave; its laws lead from there to the numbers of whole strings. Cuttings multiply and take names as codings do.
-use mathlib.Core.Path.{_≡_, refl, ap, sym, _∙_}
+use mathlib.Core.Path.{◌≡◌, refl, ap, sym, ◌∙◌}
 use mathlib.Core.Bool.{Bool, true, false, cond}
-use mathlib.Core.List.{_++_, map}
-use Prim.Native.Nat.{ℕ, _+_, _*_, _/_, min}
+use mathlib.Core.List.{◌++◌, map}
+use Prim.Native.Nat.{ℕ, ◌+◌, ◌*◌, ◌/◌, min}
 use native.Mathlib.Omega.{arith}
 use lib.ListN.{length, take, drop, take-append-drop}
-use Rattle·layout.specs.Items.{itemsTo, bytesOf, signedOf, unsignedOf}
-use Rattle·coding·specs.specs.Coding.{Coding, unsigneds, signeds, raw, _⊗_, Names, named}
-use Rattle·coding·proofs.proofs.Strings.{items-read, items-joined, signeds-read, signeds-joined}
+use Rattle.layout.specs.Items.{itemsTo, bytes_of, signed_of, unsignedOf}
+use Rattle.coding.specs.Coding.{Coding, unsigneds, signeds, raw, ◌⊗◌, Names, named}
+use Rattle.coding.proofs.Strings.{items-read, items-joined, signeds-read, signeds-joined}
 
 pub record Cutting (C : Coding) : Type 1 where
   -- The numbers that are looked at, and such numbers with the rest after them.
-  pub taken : C .Numbers → C .Numbers
-  pub rejoined : C .Numbers → C .Numbers → C .Numbers
+  pub taken : C.Numbers → C.Numbers
+  pub rejoined : C.Numbers → C.Numbers → C.Numbers
   -- Lists are as long as what is looked at.
-  pub Fits : C .Strings → C .Numbers → Type 0
+  pub Fits : C.Strings → C.Numbers → Type 0
   -- What is read to such lists, and what strings hold at the end: where the call is accepted the lists are written over their front.
-  pub read : C .Strings → C .Numbers → C .Numbers
-  pub left : Bool → C .Strings → C .Numbers → C .Strings
+  pub read : C.Strings → C.Numbers → C.Numbers
+  pub left : Bool → C.Strings → C.Numbers → C.Strings
   -- The laws.
-  pub parts : (xs : C .Numbers) → xs ≡ rejoined xs (taken xs)
-  pub reads : (b : C .Strings) (xs : C .Numbers) → Fits b xs → read b xs ≡ taken (C .numbers b)
-  pub writes : (b : C .Strings) → C .Held b → C .spare b ≡ 0 → (xs : C .Numbers) → Fits b xs → left true b xs ≡ C .bytes (rejoined (C .numbers b) xs)
-  pub stays : (b : C .Strings) → left false b (taken (C .numbers b)) ≡ b
+  pub parts : (xs : C.Numbers) → xs ≡ rejoined xs (taken xs)
+  pub reads : (b : C.Strings) (xs : C.Numbers) → Fits b xs → read b xs ≡ taken (C.numbers b)
+  pub writes : (b : C.Strings) → C.Held b → C.spare b ≡ 0 → (xs : C.Numbers) → Fits b xs → left true b xs ≡ C.bytes (rejoined (C.numbers b) xs)
+  pub stays : (b : C.Strings) → left false b (taken (C.numbers b)) ≡ b
 
 -- At most c items of k bytes.
 abbrev pub firstUnsigneds : (k c : ℕ) → Cutting (unsigneds k)
@@ -33,7 +33,7 @@ firstUnsigneds k c =
       rejoined = λ xs front. front ++ drop c xs;
       Fits = λ b xs. length xs ≡ min (length b / k) c;
       read = λ b xs. itemsTo k b (length xs);
-      left = λ t b xs. cond t (bytesOf k xs ++ drop (k * length xs) b) b;
+      left = λ t b xs. cond t (bytes_of k xs ++ drop (k * length xs) b) b;
       parts = λ xs. sym (take-append-drop c xs);
       reads = λ b xs h. items-read k c b (length xs) h;
       writes = λ b held whole xs h. items-joined k c b held whole xs (length xs) h;
@@ -47,8 +47,8 @@ firstSigneds c =
       taken = take c;
       rejoined = λ xs front. front ++ drop c xs;
       Fits = λ b xs. length xs ≡ min (length b / 2) c;
-      read = λ b xs. map signedOf (itemsTo 2 b (length xs));
-      left = λ t b xs. cond t (bytesOf 2 (map unsignedOf xs) ++ drop (2 * length xs) b) b;
+      read = λ b xs. map signed_of (itemsTo 2 b (length xs));
+      left = λ t b xs. cond t (bytes_of 2 (map unsignedOf xs) ++ drop (2 * length xs) b) b;
       parts = λ xs. sym (take-append-drop c xs);
       reads = λ b xs h. signeds-read c b (length xs) h;
       writes = λ b held whole xs h. signeds-joined c b held whole xs (length xs) h;
@@ -71,51 +71,51 @@ allRaw =
     }
 
 -- Where nothing is left over of two together, nothing is of either.
-pub nothing-left : (m n : ℕ) → m + n ≡ 0 → (m ≡ 0) × (n ≡ 0)
-nothing-left m n h = (omega arith, omega arith)
+pub nothing_left : (m n : ℕ) → m + n ≡ 0 → (m ≡ 0) × (n ≡ 0)
+nothing_left m n h = (omega arith, omega arith)
 
 -- Two things lent together.
-infixr 30 _⊠_
-abbrev pub _⊠_ : {C D : Coding} → Cutting C → Cutting D → Cutting (C ⊗ D)
-_⊠_ {C} {D} P Q =
+infixr 30 ◌⊠◌
+abbrev pub ◌⊠◌ : {C D : Coding} → Cutting C → Cutting D → Cutting (C ⊗ D)
+◌⊠◌ {C} {D} P Q =
     record {
-      taken = λ xs. (P .taken (xs .0), Q .taken (xs .1));
-      rejoined = λ xs front. (P .rejoined (xs .0) (front .0), Q .rejoined (xs .1) (front .1));
-      Fits = λ b xs. P .Fits (b .0) (xs .0) × Q .Fits (b .1) (xs .1);
-      read = λ b xs. (P .read (b .0) (xs .0), Q .read (b .1) (xs .1));
-      left = λ t b xs. (P .left t (b .0) (xs .0), Q .left t (b .1) (xs .1));
-      parts = λ xs i. (P .parts (xs .0) i, Q .parts (xs .1) i);
-      reads = λ b xs h i. (P .reads (b .0) (xs .0) (h .0) i, Q .reads (b .1) (xs .1) (h .1) i);
+      taken = λ xs. (P.taken xs.0, Q.taken xs.1);
+      rejoined = λ xs front. (P.rejoined xs.0 front.0, Q.rejoined xs.1 front.1);
+      Fits = λ b xs. P.Fits b.0 xs.0 × Q.Fits b.1 xs.1;
+      read = λ b xs. (P.read b.0 xs.0, Q.read b.1 xs.1);
+      left = λ t b xs. (P.left t b.0 xs.0, Q.left t b.1 xs.1);
+      parts = λ xs i. (P.parts xs.0 i, Q.parts xs.1 i);
+      reads = λ b xs h i. (P.reads b.0 xs.0 h.0 i, Q.reads b.1 xs.1 h.1 i);
       writes = λ b held whole xs h.
-          let none-left = nothing-left (C .spare (b .0)) (D .spare (b .1)) whole in
-          λ i. (P .writes (b .0) (held .0) (none-left .0) (xs .0) (h .0) i, Q .writes (b .1) (held .1) (none-left .1) (xs .1) (h .1) i);
-      stays = λ b i. (P .stays (b .0) i, Q .stays (b .1) i);
+          let none_left = nothing_left (C.spare b.0) (D.spare b.1) whole in
+          λ i. (P.writes b.0 held.0 none_left.0 xs.0 h.0 i, Q.writes b.1 held.1 none_left.1 xs.1 h.1 i);
+      stays = λ b i. (P.stays b.0 i, Q.stays b.1 i);
     }
 
 -- The same with names.
-abbrev pub namedCut : {S N : Type 0} {C : Coding} (f : Names S (C .Strings)) (g : Names N (C .Numbers)) → Cutting C → Cutting (named C f g)
+abbrev pub namedCut : {S N : Type 0} {C : Coding} (f : Names S C.Strings) (g : Names N C.Numbers) → Cutting C → Cutting (named C f g)
 namedCut {S} {N} {C} f g P =
     record {
-      taken = λ xs. g .byName (P .taken (g .inOrder xs));
-      rejoined = λ xs front. g .byName (P .rejoined (g .inOrder xs) (g .inOrder front));
-      Fits = λ b xs. P .Fits (f .inOrder b) (g .inOrder xs);
-      read = λ b xs. g .byName (P .read (f .inOrder b) (g .inOrder xs));
-      left = λ t b xs. f .byName (P .left t (f .inOrder b) (g .inOrder xs));
+      taken = λ xs. g.byName (P.taken (g.inOrder xs));
+      rejoined = λ xs front. g.byName (P.rejoined (g.inOrder xs) (g.inOrder front));
+      Fits = λ b xs. P.Fits (f.inOrder b) (g.inOrder xs);
+      read = λ b xs. g.byName (P.read (f.inOrder b) (g.inOrder xs));
+      left = λ t b xs. f.byName (P.left t (f.inOrder b) (g.inOrder xs));
       parts = λ xs.
-          sym (g .same-names xs)
-          ∙ ap (g .byName) (P .parts (g .inOrder xs) ∙ ap (P .rejoined (g .inOrder xs)) (sym (g .same-order (P .taken (g .inOrder xs)))));
-      reads = λ b xs h. ap (g .byName) (P .reads (f .inOrder b) (g .inOrder xs) h ∙ ap (P .taken) (sym (g .same-order (C .numbers (f .inOrder b)))));
+          sym (g.same_names xs)
+          ∙ ap g.byName (P.parts (g.inOrder xs) ∙ ap (P.rejoined (g.inOrder xs)) (sym (g.same-order (P.taken (g.inOrder xs)))));
+      reads = λ b xs h. ap g.byName (P.reads (f.inOrder b) (g.inOrder xs) h ∙ ap P.taken (sym (g.same-order (C.numbers (f.inOrder b)))));
       writes = λ b held whole xs h.
-          let ys = C .numbers (f .inOrder b) in
-          let zs = g .inOrder xs in
-          ap (f .byName)
-          (P .writes (f .inOrder b) held whole zs h
-          ∙ ap (λ (y : C .Numbers). C .bytes (P .rejoined y zs)) (sym (g .same-order ys))
-          ∙ ap (C .bytes) (sym (g .same-order (P .rejoined (g .inOrder (g .byName ys)) zs))));
+          let ys = C.numbers (f.inOrder b) in
+          let zs = g.inOrder xs in
+          ap f.byName
+          (P.writes (f.inOrder b) held whole zs h
+          ∙ ap (λ (y : C.Numbers). C.bytes (P.rejoined y zs)) (sym (g.same-order ys))
+          ∙ ap C.bytes (sym (g.same-order (P.rejoined (g.inOrder (g.byName ys)) zs))));
       stays = λ b.
-          let ys = C .numbers (f .inOrder b) in
-          ap (λ (y : C .Numbers). f .byName (P .left false (f .inOrder b) y))
-          (g .same-order (P .taken (g .inOrder (g .byName ys))) ∙ ap (P .taken) (g .same-order ys))
-          ∙ ap (f .byName) (P .stays (f .inOrder b))
-          ∙ f .same-names b;
+          let ys = C.numbers (f.inOrder b) in
+          ap (λ (y : C.Numbers). f.byName (P.left false (f.inOrder b) y))
+          (g.same-order (P.taken (g.inOrder (g.byName ys))) ∙ ap P.taken (g.same-order ys))
+          ∙ ap f.byName (P.stays (f.inOrder b))
+          ∙ f.same_names b;
     }

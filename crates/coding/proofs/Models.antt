@@ -1,15 +1,15 @@
 -- The three byte strings of models or a path, together: their cutting, and what a call owes of them that reads or writes them.
-use mathlib.Core.Path.{_≡_, sym, _∙_}
-use Prim.Native.Nat.{ℕ, _/_, _≤_, min}
+use mathlib.Core.Path.{◌≡◌, sym, ◌∙◌}
+use Prim.Native.Nat.{ℕ, ◌/◌, ◌≤◌, min}
 use native.Mathlib.Omega.{arith}
-use lib.ListN.{length, getD, take, replicate}
+use lib.ListN.{length, get_or, take, replicate}
 use mir.Syntax.{w8}
 use mir.Val.{Fits}
-use Rattle·path.specs.Model.{Lists, lists}
-use Rattle·coding·specs.specs.Models.{listNames, modelsCoding}
-use Rattle·coding·specs.specs.Inner.{ListsFit, HoldsModels}
-use Rattle·coding·proofs.proofs.Strings.{bytes-held, items-back, front-fits}
-use Rattle·coding·proofs.proofs.Cutting.{Cutting, firstUnsigneds, _⊠_, namedCut}
+use Rattle.path.specs.Model.{Lists, lists}
+use Rattle.coding.specs.Models.{listNames, modelsCoding}
+use Rattle.coding.specs.Inner.{ListsFit, HoldsModels}
+use Rattle.coding.proofs.Strings.{bytes-held, items_back, front_fits}
+use Rattle.coding.proofs.Cutting.{Cutting, firstUnsigneds, ◌⊠◌, namedCut}
 
 -- The first n models.
 abbrev pub modelsCut : ℕ → Cutting modelsCoding
@@ -17,38 +17,38 @@ modelsCut n = namedCut listNames listNames (firstUnsigneds 2 n ⊠ firstUnsigned
 
 module _ (x : Lists) where
   -- What lent slices are known to hold are bytes.
-  pub models-held : ((i : ℕ) → Fits w8 (getD (x .sizes) i 0)) → ((i : ℕ) → Fits w8 (getD (x .losses) i 0)) → ((i : ℕ) → Fits w8 (getD (x .weights) i 0))
-      → modelsCoding .Held x
-  models-held f g h = (bytes-held (x .sizes) f, (bytes-held (x .losses) g, bytes-held (x .weights) h))
+  pub models-held : ((i : ℕ) → Fits w8 (get_or x.sizes i 0)) → ((i : ℕ) → Fits w8 (get_or x.losses i 0)) → ((i : ℕ) → Fits w8 (get_or x.weights i 0))
+      → modelsCoding.Held x
+  models-held f g h = (bytes-held x.sizes f, (bytes-held x.losses g, bytes-held x.weights h))
 
   -- Whole items give their bytes back.
-  pub models-back : modelsCoding .Held x → modelsCoding .spare x ≡ 0 → x ≡ modelsCoding .bytes (modelsCoding .numbers x)
+  pub models-back : modelsCoding.Held x → modelsCoding.spare x ≡ 0 → x ≡ modelsCoding.bytes (modelsCoding.numbers x)
   models-back held whole =
-      let s = items-back 2 (x .sizes) (held .0) (omega arith) in
-      let l = items-back 8 (x .losses) (held .1 .0) (omega arith) in
-      let w = items-back 2 (x .weights) (held .1 .1) (omega arith) in
+      let s = items_back 2 x.sizes held.0 (omega arith) in
+      let l = items_back 8 x.losses held.1.0 (omega arith) in
+      let w = items_back 2 x.weights held.1.1 (omega arith) in
       λ i. lists (sym s i) (sym l i) (sym w i)
 
   -- Lists that fit, and have stayed as long as they were.
   module _ {n a b c : ℕ} (fit : ListsFit n x a b c) where
-    pub models-fit : (t : Lists) → length (t .sizes) ≡ a → length (t .losses) ≡ b → length (t .weights) ≡ c → modelsCut n .Fits x t
-    models-fit t e f g = (e ∙ fit .sizes-fit, (f ∙ fit .losses-fit, g ∙ fit .weights-fit))
+    pub models-fit : (t : Lists) → length t.sizes ≡ a → length t.losses ≡ b → length t.weights ≡ c → (modelsCut n).Fits x t
+    models-fit t e f g = (e ∙ fit.sizes-fit, (f ∙ fit.losses-fit, g ∙ fit.weights-fit))
 
-    pub models-hold : {s l w : ℕ} → s ≡ a → l ≡ b → w ≡ c → HoldsModels s l w (x .sizes) (x .losses) (x .weights)
+    pub models-hold : {s l w : ℕ} → s ≡ a → l ≡ b → w ≡ c → HoldsModels s l w x.sizes x.losses x.weights
     models-hold e f g =
         record {
-          sizes-have = omega (arith, fit .sizes-fit);
-          losses-have = omega (arith, fit .losses-fit);
-          weights-have = omega (arith, fit .weights-fit);
+          sizes-have = omega (arith, fit.sizes-fit);
+          losses-have = omega (arith, fit.losses-fit);
+          weights-have = omega (arith, fit.weights-fit);
         }
 
   -- Fronts of three arrays with m places fit where they are as long as there are items to look at, n at most of each.
-  pub fronts-fit : (m n : ℕ) {a b c k : ℕ} → a ≡ min (length (x .sizes) / 2) k → b ≡ min (length (x .losses) / 8) k → c ≡ min (length (x .weights) / 2) k
+  pub fronts-fit : (m n : ℕ) {a b c k : ℕ} → a ≡ min (length x.sizes / 2) k → b ≡ min (length x.losses / 8) k → c ≡ min (length x.weights / 2) k
       → k ≡ n → n ≤ m
       → ListsFit n x (length (take a (replicate {A = ℕ} m 0))) (length (take b (replicate {A = ℕ} m 0))) (length (take c (replicate {A = ℕ} m 0)))
   fronts-fit m n e f g same few =
       record {
-        sizes-fit = front-fits {A = ℕ} 0 m _ n e same few;
-        losses-fit = front-fits {A = ℕ} 0 m _ n f same few;
-        weights-fit = front-fits {A = ℕ} 0 m _ n g same few;
+        sizes-fit = front_fits {A = ℕ} 0 m _ n e same few;
+        losses-fit = front_fits {A = ℕ} 0 m _ n f same few;
+        weights-fit = front_fits {A = ℕ} 0 m _ n g same few;
       }

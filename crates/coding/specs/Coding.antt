@@ -1,15 +1,9 @@
 -- A call over byte strings is the call on numbers: what it is lent is decoded, the call is made, and what it leaves is encoded. A
 -- coding says how byte strings spell numbers, for one string or for several that are lent together. A string that ends inside an
 -- item is refused under 11, before any other check; and whatever the number, a refused call leaves every byte.
-use mathlib.Core.Path.{_≡_}
-use mathlib.Core.Bool.{cond}
-use mathlib.Core.List.{List, [], _∷_, map}
-use Prim.Native.Nat.{ℕ, _+_, _%_}
-use lib.Dec.{eqb}
-use lib.IntN.{ℤ}
-use lib.ListN.{length}
-use Rattle·layout.specs.Items.{Bytes, itemsOf, bytesOf, signedOf, unsignedOf}
-use Rattle·path.specs.Refusal.{check, byChecks}
+use Rattle.std.specs.Prelude.{◌≡◌, cond, List, [], ◌∷◌, map, ℕ, ◌+◌, ◌%◌, eqb, ℤ, length}
+use Rattle.layout.specs.Items.{Bytes, items_of, bytes_of, signed_of, unsignedOf}
+use Rattle.path.specs.Refusal.{check, byChecks}
 
 -- What a call leaves: its answer and its buffers.
 pub record Outcome (A B : Type 0) : Type 0 where
@@ -44,8 +38,8 @@ unsigneds k =
       Numbers = List ℕ;
       Held = Bytes;
       spare = λ b. length b % k;
-      numbers = itemsOf k;
-      bytes = bytesOf k;
+      numbers = items_of k;
+      bytes = bytes_of k;
     }
 
 -- One string with numbers of two bytes each, low byte first, in two's complement.
@@ -56,8 +50,8 @@ signeds =
       Numbers = List ℤ;
       Held = Bytes;
       spare = λ b. length b % 2;
-      numbers = λ b. map signedOf (itemsOf 2 b);
-      bytes = λ xs. bytesOf 2 (map unsignedOf xs);
+      numbers = λ b. map signed_of (items_of 2 b);
+      bytes = λ xs. bytes_of 2 (map unsignedOf xs);
     }
 
 -- One string that the call on numbers takes as it is.
@@ -85,16 +79,16 @@ none =
     }
 
 -- What two codings code, lent together.
-infixr 30 _⊗_
-abbrev pub _⊗_ : Coding → Coding → Coding
+infixr 30 ◌⊗◌
+abbrev pub ◌⊗◌ : Coding → Coding → Coding
 C ⊗ D =
     record {
-      Strings = C .Strings × D .Strings;
-      Numbers = C .Numbers × D .Numbers;
-      Held = λ b. C .Held (b .0) × D .Held (b .1);
-      spare = λ b. C .spare (b .0) + D .spare (b .1);
-      numbers = λ b. (C .numbers (b .0), D .numbers (b .1));
-      bytes = λ xs. (C .bytes (xs .0), D .bytes (xs .1));
+      Strings = C.Strings × D.Strings;
+      Numbers = C.Numbers × D.Numbers;
+      Held = λ b. C.Held b.0 × D.Held b.1;
+      spare = λ b. C.spare b.0 + D.spare b.1;
+      numbers = λ b. (C.numbers b.0, D.numbers b.1);
+      bytes = λ xs. (C.bytes xs.0, D.bytes xs.1);
     }
 
 -- Names for the places of a tuple: a record's fields in their order, and the record of such a tuple.
@@ -102,27 +96,27 @@ pub record Names (A B : Type 0) : Type 0 where
   pub inOrder : A → B
   pub byName : B → A
   pub same-order : (b : B) → inOrder (byName b) ≡ b
-  pub same-names : (a : A) → byName (inOrder a) ≡ a
+  pub same_names : (a : A) → byName (inOrder a) ≡ a
 
 -- The same coding with names for its strings and for its lists of numbers.
-abbrev pub named : {S N : Type 0} (C : Coding) → Names S (C .Strings) → Names N (C .Numbers) → Coding
+abbrev pub named : {S N : Type 0} (C : Coding) → Names S C.Strings → Names N C.Numbers → Coding
 named {S} {N} C f g =
     record {
       Strings = S;
       Numbers = N;
-      Held = λ b. C .Held (f .inOrder b);
-      spare = λ b. C .spare (f .inOrder b);
-      numbers = λ b. g .byName (C .numbers (f .inOrder b));
-      bytes = λ xs. f .byName (C .bytes (g .inOrder xs));
+      Held = λ b. C.Held (f.inOrder b);
+      spare = λ b. C.spare (f.inOrder b);
+      numbers = λ b. g.byName (C.numbers (f.inOrder b));
+      bytes = λ xs. f.byName (C.bytes (g.inOrder xs));
     }
 
 -- What a call on the numbers of strings leaves of these: the bytes of its buffers, or where it is refused the strings as they were.
-abbrev pub encodedOver : {A : Type 0} (D : Coding) → Answers A → D .Strings → Outcome A (D .Numbers) → Outcome A (D .Strings)
-encodedOver D a b o = outcome (o .answer) (cond (eqb (a .number (o .answer)) 0) (D .bytes (o .buffers)) b)
+abbrev pub encodedOver : {A : Type 0} (D : Coding) → Answers A → D.Strings → Outcome A D.Numbers → Outcome A D.Strings
+encodedOver D a b o = outcome o.answer (cond (eqb (a.number o.answer) 0) (D.bytes o.buffers) b)
 
 -- A call over byte strings: over what it only reads, coded by C, and over its buffers, coded by D.
-unfoldable pub onBytes : {A : Type 0} (C D : Coding) → Answers A → (C .Numbers → D .Numbers → Outcome A (D .Numbers)) → C .Strings → D .Strings
-    → Outcome A (D .Strings)
+unfoldable pub onBytes : {A : Type 0} (C D : Coding) → Answers A → (C.Numbers → D.Numbers → Outcome A D.Numbers) → C.Strings → D.Strings
+    → Outcome A D.Strings
 onBytes C D a call s b =
-    byChecks (check 11 (eqb (C .spare s + D .spare b) 0) ∷ []) (λ n. outcome (a .refused n) b)
-    (encodedOver D a b (call (C .numbers s) (D .numbers b)))
+    byChecks (check 11 (eqb (C.spare s + D.spare b) 0) ∷ []) (λ n. outcome (a.refused n) b)
+    (encodedOver D a b (call (C.numbers s) (D.numbers b)))

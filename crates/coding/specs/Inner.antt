@@ -1,23 +1,17 @@
 -- What the functions that read and write lists together ask for and leave. A reader of the calls need not believe anything that
 -- stands here.
-use mathlib.Core.Path.{_≡_}
-use mathlib.Core.Bool.{cond}
-use mathlib.Core.List.{List, _++_, map}
-use Prim.Native.Nat.{ℕ, _*_, _/_, _%_, _≤_, _<_, min}
-use lib.Dec.{eqb}
-use lib.IntN.{ℤ}
-use lib.ListN.{length, take, drop}
-use Rattle·layout.specs.Items.{itemsTo, itemsOf, bytesOf, signedOf, unsignedOf}
-use Rattle·path.specs.Model.{Lists}
-use Rattle·path.specs.Buffer.{overwrittenTo}
+use Rattle.std.specs.Prelude.{◌≡◌, cond, List, ◌++◌, map, ℕ, ◌*◌, ◌/◌, ◌%◌, ◌≤◌, ◌<◌, min, eqb, ℤ, length, take, drop}
+use Rattle.layout.specs.Items.{itemsTo, items_of, bytes_of, signed_of, unsignedOf}
+use Rattle.path.specs.Model.{Lists}
+use Rattle.path.specs.Buffer.{overwrittenTo}
 
 -- What a string holds after a list of items of k bytes was encoded to it, by the refusal of the call.
 abbrev pub encodedTo : ℕ → ℕ → List ℕ → List ℕ → List ℕ
-encodedTo refusal k bytes items = cond (eqb refusal 0) (bytesOf k items ++ drop (k * length items) bytes) bytes
+encodedTo refusal k bytes items = cond (eqb refusal 0) (bytes_of k items ++ drop (k * length items) bytes) bytes
 
 -- The same of signed items.
 abbrev pub encodedSigned : ℕ → List ℕ → List ℤ → List ℕ
-encodedSigned refusal bytes items = cond (eqb refusal 0) (bytesOf 2 (map unsignedOf items) ++ drop (2 * length items) bytes) bytes
+encodedSigned refusal bytes items = cond (eqb refusal 0) (bytes_of 2 (map unsignedOf items) ++ drop (2 * length items) bytes) bytes
 
 -- Two strings have a and b items, of j and of k bytes.
 pub record Holds (j k a b : ℕ) (x y : List ℕ) : Type 0 where
@@ -26,9 +20,9 @@ pub record Holds (j k a b : ℕ) (x y : List ℕ) : Type 0 where
 
 -- Three lists have as many places as there are sizes, losses and weights to look at, n at most of each.
 pub record ListsFit (n : ℕ) (x : Lists) (a b c : ℕ) : Type 0 where
-  pub sizes-fit : a ≡ min (length (x .sizes) / 2) n
-  pub losses-fit : b ≡ min (length (x .losses) / 8) n
-  pub weights-fit : c ≡ min (length (x .weights) / 2) n
+  pub sizes-fit : a ≡ min (length x.sizes / 2) n
+  pub losses-fit : b ≡ min (length x.losses / 8) n
+  pub weights-fit : c ≡ min (length x.weights / 2) n
 
 -- Three strings have a sizes, b losses and c weights.
 pub record HoldsModels (a b c : ℕ) (sizes losses weights : List ℕ) : Type 0 where
@@ -51,7 +45,7 @@ pub record ModelsEncoded (refusal : ℕ) (sizes losses weights s l w sizes' loss
 -- The starts and levels that were read.
 pub record SegmentsRead (starts levels s : List ℕ) (l : List ℤ) (a b : ℕ) : Type 0 where
   pub starts-are : s ≡ itemsTo 2 starts a
-  pub levels-are : l ≡ map signedOf (itemsTo 2 levels b)
+  pub levels-are : l ≡ map signed_of (itemsTo 2 levels b)
 
 -- The strings of starts and levels that were written.
 pub record SegmentsEncoded (refusal : ℕ) (starts levels s : List ℕ) (l : List ℤ) (starts' levels' : List ℕ) : Type 0 where
@@ -61,10 +55,10 @@ pub record SegmentsEncoded (refusal : ℕ) (starts levels s : List ℕ) (l : Lis
 -- A string of whole items of k bytes has an item at place `kept`, and n items or more.
 pub record Storable (k : ℕ) (bytes : List ℕ) (kept n : ℕ) : Type 0 where
   pub whole : length bytes % k ≡ 0
-  pub inside : kept < length (itemsOf k bytes)
-  pub room : n ≤ length (itemsOf k bytes)
+  pub inside : kept < length (items_of k bytes)
+  pub room : n ≤ length (items_of k bytes)
 
 -- The string b, which was b₀, has zeros from one place to another in whatever items it spelt.
 pub record ClearedTo (k : ℕ) (b₀ b : List ℕ) (from i : ℕ) : Type 0 where
   pub long : length b ≡ length b₀
-  pub is : (xs : List ℕ) → b₀ ≡ bytesOf k xs → from ≤ length xs → i ≤ length xs → b ≡ bytesOf k (overwrittenTo (take from xs) i xs)
+  pub is : (xs : List ℕ) → b₀ ≡ bytes_of k xs → from ≤ length xs → i ≤ length xs → b ≡ bytes_of k (overwrittenTo (take from xs) i xs)

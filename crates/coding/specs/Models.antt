@@ -1,18 +1,16 @@
 -- Models or a path as three byte strings: sizes and weights are items of two bytes, losses items of eight.
-use mathlib.Core.Path.{refl}
-use mathlib.Core.List.{List}
-use Prim.Native.Nat.{ℕ}
-use Rattle·path.specs.Model.{Lists, lists}
-use Rattle·coding·specs.specs.Coding.{Coding, unsigneds, _⊗_, Names, named}
+use Rattle.std.specs.Prelude.{refl, List, ℕ}
+use Rattle.path.specs.Model.{Lists, lists}
+use Rattle.coding.specs.Coding.{Coding, unsigneds, ◌⊗◌, Names, named}
 
 -- The strings, or the numbers that they hold, stand in the order in which every call takes them.
 abbrev pub listNames : Names Lists (List ℕ × (List ℕ × List ℕ))
 listNames =
     record {
-      inOrder = λ x. (x .sizes, (x .losses, x .weights));
+      inOrder = λ x. (x.sizes, (x.losses, x.weights));
       byName = λ (sizes, (losses, weights)). lists sizes losses weights;
       same-order = λ x. refl;
-      same-names = λ x. refl;
+      same_names = λ x. refl;
     }
 
 abbrev pub modelsCoding : Coding

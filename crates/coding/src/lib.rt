@@ -1,25 +1,17 @@
 // Byte strings as what a call on numbers is lent: the lists that it works on are read from them, and written back where it was
 // accepted.
 
-ghost use mathlib.Core.Path.{_≡_};
-ghost use Prim.Native.Nat.{_*_, _≤_};
-ghost use mathlib.Core.List.{_∷_, [], _++_};
-ghost use lib.ListN.{length, take};
-ghost use Rattle·layout.specs.Items.{itemsOf, bytesOf};
-ghost use Rattle·path.specs.Buffer.{overwrittenTo};
-ghost use Rattle·coding·specs.specs.Inner.{Storable, ClearedTo, encodedTo, encodedSigned, Holds, HoldsModels, ModelsRead, ModelsEncoded, SegmentsRead, SegmentsEncoded};
-use layout::put;
-use layout::read_i16s;
-use layout::read_items;
-use layout::read_u16s;
-use layout::write_i16s;
-use layout::write_items;
-use layout::write_u16s;
+ghost use Rattle.std.specs.Prelude.{◌≡◌, ◌*◌, ◌≤◌, ◌∷◌, [], ◌++◌, length, take};
+ghost use Rattle.layout.specs.Items.{items_of, bytes_of};
+ghost use Rattle.path.specs.Buffer.{overwrittenTo};
+ghost use Rattle.coding.specs.Inner.{Storable, ClearedTo, encodedTo, encodedSigned, Holds, HoldsModels, ModelsRead, ModelsEncoded, SegmentsRead, SegmentsEncoded};
+
+use layout::{put, read_i16s, read_items, read_u16s, write_i16s, write_items, write_u16s};
 
 // Writes a list of items of `width` bytes to the front of a byte string, unless the call was refused.
 pub fn encode_items(refusal: u64, bytes: &mut [u8], width: usize, items: &[u64])
-    requires { ⌜ width * length (now items) ≤ length (now bytes) ⌝ }
-    ensures { λ r. ⌜ now (bytes .exit) ≡ encodedTo refusal width (now (bytes .entry)) (now (items .entry)) ⌝ }
+    requires { width * length items.now ≤ length bytes.old }
+    ensures { bytes.new ≡ encodedTo refusal width bytes.old items.now }
 {
     if refusal != 0 {
         return;
@@ -29,8 +21,8 @@ pub fn encode_items(refusal: u64, bytes: &mut [u8], width: usize, items: &[u64])
 
 // Writes a list of items of two bytes to the front of a byte string, unless the call was refused.
 pub fn encode_u16s(refusal: u64, bytes: &mut [u8], items: &[u16])
-    requires { ⌜ 2 * length (now items) ≤ length (now bytes) ⌝ }
-    ensures { λ r. ⌜ now (bytes .exit) ≡ encodedTo refusal 2 (now (bytes .entry)) (now (items .entry)) ⌝ }
+    requires { 2 * length items.now ≤ length bytes.old }
+    ensures { bytes.new ≡ encodedTo refusal 2 bytes.old items.now }
 {
     if refusal != 0 {
         return;
@@ -40,8 +32,8 @@ pub fn encode_u16s(refusal: u64, bytes: &mut [u8], items: &[u16])
 
 // Writes a list of signed items of two bytes to the front of a byte string, unless the call was refused.
 pub fn encode_i16s(refusal: u64, bytes: &mut [u8], items: &[i16])
-    requires { ⌜ 2 * length (now items) ≤ length (now bytes) ⌝ }
-    ensures { λ r. ⌜ now (bytes .exit) ≡ encodedSigned refusal (now (bytes .entry)) (now (items .entry)) ⌝ }
+    requires { 2 * length items.now ≤ length bytes.old }
+    ensures { bytes.new ≡ encodedSigned refusal bytes.old items.now }
 {
     if refusal != 0 {
         return;
@@ -58,12 +50,12 @@ pub fn read_models(
     loss_items: &mut [u64],
     weight_items: &mut [u64],
 )
-    requires { ⌜ HoldsModels
-        (length (now «size_items»)) (length (now «loss_items»)) (length (now «weight_items»))
-        (now sizes) (now losses) (now weights) ⌝ }
-    ensures { λ r. ⌜ ModelsRead (now (sizes .entry)) (now (losses .entry)) (now (weights .entry))
-        (now («size_items» .exit)) (now («loss_items» .exit)) (now («weight_items» .exit))
-        (length (now («size_items» .entry))) (length (now («loss_items» .entry))) (length (now («weight_items» .entry))) ⌝ }
+    requires { HoldsModels
+        (length size_items.old) (length loss_items.old) (length weight_items.old)
+        sizes.now losses.now weights.now }
+    ensures { ModelsRead sizes.now losses.now weights.now
+        size_items.new loss_items.new weight_items.new
+        (length size_items.old) (length loss_items.old) (length weight_items.old) }
 {
     read_items(sizes, 2, size_items);
     read_items(losses, 8, loss_items);
@@ -80,12 +72,12 @@ pub fn encode_models(
     loss_items: &[u64],
     weight_items: &[u64],
 )
-    requires { ⌜ HoldsModels
-        (length (now «size_items»)) (length (now «loss_items»)) (length (now «weight_items»))
-        (now sizes) (now losses) (now weights) ⌝ }
-    ensures { λ r. ⌜ ModelsEncoded refusal (now (sizes .entry)) (now (losses .entry)) (now (weights .entry))
-        (now («size_items» .entry)) (now («loss_items» .entry)) (now («weight_items» .entry))
-        (now (sizes .exit)) (now (losses .exit)) (now (weights .exit)) ⌝ }
+    requires { HoldsModels
+        (length size_items.now) (length loss_items.now) (length weight_items.now)
+        sizes.old losses.old weights.old }
+    ensures { ModelsEncoded refusal sizes.old losses.old weights.old
+        size_items.now loss_items.now weight_items.now
+        sizes.new losses.new weights.new }
 {
     encode_items(refusal, sizes, 2, size_items);
     encode_items(refusal, losses, 8, loss_items);
@@ -94,10 +86,10 @@ pub fn encode_models(
 
 // Reads as many starts and levels as the two lists have places.
 pub fn read_segments(starts: &[u8], levels: &[u8], start_items: &mut [u16], level_items: &mut [i16])
-    requires { ⌜ Holds 2 2 (length (now «start_items»)) (length (now «level_items»)) (now starts) (now levels) ⌝ }
-    ensures { λ r. ⌜ SegmentsRead (now (starts .entry)) (now (levels .entry))
-        (now («start_items» .exit)) (now («level_items» .exit))
-        (length (now («start_items» .entry))) (length (now («level_items» .entry))) ⌝ }
+    requires { Holds 2 2 (length start_items.old) (length level_items.old) starts.now levels.now }
+    ensures { SegmentsRead starts.now levels.now
+        start_items.new level_items.new
+        (length start_items.old) (length level_items.old) }
 {
     read_u16s(starts, start_items);
     read_i16s(levels, level_items);
@@ -111,10 +103,10 @@ pub fn encode_segments(
     start_items: &[u16],
     level_items: &[i16],
 )
-    requires { ⌜ Holds 2 2 (length (now «start_items»)) (length (now «level_items»)) (now starts) (now levels) ⌝ }
-    ensures { λ r. ⌜ SegmentsEncoded refusal (now (starts .entry)) (now (levels .entry))
-        (now («start_items» .entry)) (now («level_items» .entry))
-        (now (starts .exit)) (now (levels .exit)) ⌝ }
+    requires { Holds 2 2 (length start_items.now) (length level_items.now) starts.old levels.old }
+    ensures { SegmentsEncoded refusal starts.old levels.old
+        start_items.now level_items.now
+        starts.new levels.new }
 {
     encode_u16s(refusal, starts, start_items);
     encode_i16s(refusal, levels, level_items);
@@ -122,8 +114,8 @@ pub fn encode_segments(
 
 // Writes zeros as items of `width` bytes, from one place as far as another.
 fn clear_items(bytes: &mut [u8], width: usize, from: usize, n: usize)
-    requires { ⌜ (width * from ≤ length (now bytes)) × (width * n ≤ length (now bytes)) ⌝ }
-    ensures { λ r. ⌜ ClearedTo width (now (bytes .entry)) (now (bytes .exit)) from n ⌝ }
+    requires { (width * from ≤ length bytes.old) × (width * n ≤ length bytes.old) }
+    ensures { ClearedTo width bytes.old bytes.new from n }
 {
     let mut i = from;
     let mut at = width * from;
@@ -136,11 +128,11 @@ fn clear_items(bytes: &mut [u8], width: usize, from: usize, n: usize)
 
 // Puts a value after the first items of `width` bytes, which stay, and zeros after it as far as item n.
 pub fn store_item(bytes: &mut [u8], width: usize, kept: usize, n: usize, value: u64)
-    requires { ⌜ Storable width (now bytes) kept n ⌝ }
-    ensures { λ r. ⌜ now (bytes .exit) ≡ bytesOf width (overwrittenTo
-        (take kept (itemsOf width (now (bytes .entry))) ++ (value ∷ []))
+    requires { Storable width bytes.old kept n }
+    ensures { bytes.new ≡ bytes_of width (overwrittenTo
+        (take kept (items_of width bytes.old) ++ (value ∷ []))
         n
-        (itemsOf width (now (bytes .entry)))) ⌝ }
+        (items_of width bytes.old)) }
 {
     put(bytes, width * kept, width, value);
     clear_items(bytes, width, kept + 1, n);

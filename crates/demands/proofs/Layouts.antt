@@ -1,17 +1,17 @@
 -- The layouts are as written out. Items are read off a string one by one; the rest is by the definitions.
-use mathlib.Core.Path.{_≡_, refl, ap, _∙_}
-use mathlib.Core.List.{List, [], _∷_, _++_}
-use Prim.Native.Nat.{ℕ, zero, suc, _+_, _*_, _-_, _/_, _%_, _≤_, _<_}
+use mathlib.Core.Path.{◌≡◌, refl, ap, ◌∙◌}
+use mathlib.Core.List.{List, [], ◌∷◌, ◌++◌}
+use Prim.Native.Nat.{ℕ, zero, suc, ◌+◌, ◌*◌, ◌-◌, ◌/◌, ◌%◌, ◌≤◌, ◌<◌}
 use native.Mathlib.Nat.{add-zero}
-use native.Mathlib.Numerals.{unary-clauses}
+use native.Mathlib.Numerals.{unary_clauses}
 use native.Mathlib.Omega.{arith}
 use borrow.Author.Tests.{lt-ltb, le-ltb}
-use lib.IntN.{pos, negℤ}
+use lib.IntN.{pos, neg_ℤ}
 use lib.ListN.{length}
-use Rattle·layout.specs.Item.{item}
-use Rattle·layout.specs.Items.{itemsTo, itemsOf, itemBytes, bytesOf, signedOf, unsignedOf}
-use Rattle·stream.specs.Table.{value}
-use Rattle·demands·specs.specs.Layouts.{ofEight, ItemsLayout, SignLayout, TableLayout, LayoutClaims}
+use Rattle.layout.specs.Item.{item}
+use Rattle.layout.specs.Items.{itemsTo, items_of, itemBytes, bytes_of, signed_of, unsignedOf}
+use Rattle.stream.specs.Table.{value}
+use Rattle.demands.specs.Layouts.{ofEight, ItemsLayout, SignLayout, TableLayout, LayoutClaims}
 
 -- Where every item of s is the next one of t, the items of t are its first and those of s.
 first-item : (k : ℕ) (t s : List ℕ) → ((n : ℕ) → item k t (k * suc n) ≡ item k s (k * n)) → (n : ℕ)
@@ -21,57 +21,57 @@ first-item k t s next zero = refl
 first-item k t s next (suc n) = rw (next n) (ap (λ (r : List ℕ). r ++ (item k s (k * n) ∷ [])) (first-item k t s next n))
 
 -- A string that is too short for an item has none.
-no-item : (k : ℕ) (s : List ℕ) → length s / k ≡ 0 → itemsOf k s ≡ []
+no_item : (k : ℕ) (s : List ℕ) → length s / k ≡ 0 → items_of k s ≡ []
 unfolding itemsTo
-no-item k s e = ap (itemsTo k s) e
+no_item k s e = ap (itemsTo k s) e
 
 -- The first two bytes are an item.
-two : (a b : ℕ) (s : List ℕ) → itemsOf 2 (a ∷ b ∷ s) ≡ (a + 256 * b) ∷ itemsOf 2 s
+two : (a b : ℕ) (s : List ℕ) → items_of 2 (a ∷ b ∷ s) ≡ (a + 256 * b) ∷ items_of 2 s
 unfolding item
 two a b s =
     let t = a ∷ b ∷ s in
     let count : length t / 2 ≡ suc (length s / 2) = omega arith in
     let place : (n : ℕ) → 2 * suc n ≡ suc (suc (2 * n)) = λ n. omega arith in
     ap (itemsTo 2 t) count ∙ first-item 2 t s (λ n. ap (item 2 t) (place n)) (length s / 2)
-    ∙ ap (λ (x : ℕ). (a + 256 * x) ∷ itemsOf 2 s) (add-zero b)
+    ∙ ap (λ (x : ℕ). (a + 256 * x) ∷ items_of 2 s) (add-zero b)
 
 -- So are the first eight.
-eight : (a b c d e f g h : ℕ) (s : List ℕ) → itemsOf 8 (a ∷ b ∷ c ∷ d ∷ e ∷ f ∷ g ∷ h ∷ s) ≡ ofEight a b c d e f g h ∷ itemsOf 8 s
+eight : (a b c d e f g h : ℕ) (s : List ℕ) → items_of 8 (a ∷ b ∷ c ∷ d ∷ e ∷ f ∷ g ∷ h ∷ s) ≡ ofEight a b c d e f g h ∷ items_of 8 s
 unfolding item
 eight a b c d e f g h s =
     let t = a ∷ b ∷ c ∷ d ∷ e ∷ f ∷ g ∷ h ∷ s in
     let count : length t / 8 ≡ suc (length s / 8) = omega arith in
     let place : (n : ℕ) → 8 * suc n ≡ suc (suc (suc (suc (suc (suc (suc (suc (8 * n)))))))) = λ n. omega arith in
     ap (itemsTo 8 t) count ∙ first-item 8 t s (λ n. ap (item 8 t) (place n)) (length s / 8)
-    ∙ ap (λ (x : ℕ). ofEight a b c d e f g x ∷ itemsOf 8 s) (add-zero h)
+    ∙ ap (λ (x : ℕ). ofEight a b c d e f g x ∷ items_of 8 s) (add-zero h)
 
 -- A number's bytes begin with the lowest.
-low-first : (k a v : ℕ) → a < 256 → itemBytes (suc k) (a + 256 * v) ≡ a ∷ itemBytes k v
+low_first : (k a v : ℕ) → a < 256 → itemBytes (suc k) (a + 256 * v) ≡ a ∷ itemBytes k v
 unfolding itemBytes
-low-first k a v h =
+low_first k a v h =
     let low : (a + 256 * v) % 256 ≡ a = omega arith in
     let high : (a + 256 * v) / 256 ≡ v = omega arith in
     rw (low, high)
 
 -- The one byte of a number below 256.
-last-byte : (b : ℕ) → b < 256 → itemBytes 1 b ≡ b ∷ []
+last_byte : (b : ℕ) → b < 256 → itemBytes 1 b ≡ b ∷ []
 unfolding itemBytes
-last-byte b h =
+last_byte b h =
     let low : b % 256 ≡ b = omega arith in
     rw low
 
 -- The two bytes of an item.
-two-back : (a b : ℕ) (s : List ℕ) → a < 256 → b < 256 → bytesOf 2 ((a + 256 * b) ∷ s) ≡ a ∷ b ∷ bytesOf 2 s
-unfolding bytesOf
-two-back a b s ha hb =
-    let all : itemBytes 2 (a + 256 * b) ≡ a ∷ b ∷ [] = rw (low-first 1 a b ha, last-byte b hb) in
-    ap (λ (r : List ℕ). r ++ bytesOf 2 s) all
+two_back : (a b : ℕ) (s : List ℕ) → a < 256 → b < 256 → bytes_of 2 ((a + 256 * b) ∷ s) ≡ a ∷ b ∷ bytes_of 2 s
+unfolding bytes_of
+two_back a b s ha hb =
+    let all : itemBytes 2 (a + 256 * b) ≡ a ∷ b ∷ [] = rw (low_first 1 a b ha, last_byte b hb) in
+    ap (λ (r : List ℕ). r ++ bytes_of 2 s) all
 
 -- The eight bytes of one.
 eight-back : (a b c d e f g h : ℕ) (s : List ℕ)
     → a < 256 → b < 256 → c < 256 → d < 256 → e < 256 → f < 256 → g < 256 → h < 256
-    → bytesOf 8 (ofEight a b c d e f g h ∷ s) ≡ a ∷ b ∷ c ∷ d ∷ e ∷ f ∷ g ∷ h ∷ bytesOf 8 s
-unfolding bytesOf
+    → bytes_of 8 (ofEight a b c d e f g h ∷ s) ≡ a ∷ b ∷ c ∷ d ∷ e ∷ f ∷ g ∷ h ∷ bytes_of 8 s
+unfolding bytes_of
 eight-back a b c d e f g h s ha hb hc hd he hf hg hh =
     let from-g = g + 256 * h in
     let from-f = f + 256 * from-g in
@@ -80,49 +80,49 @@ eight-back a b c d e f g h s ha hb hc hd he hf hg hh =
     let from-c = c + 256 * from-d in
     let from-b = b + 256 * from-c in
     let all : itemBytes 8 (ofEight a b c d e f g h) ≡ a ∷ b ∷ c ∷ d ∷ e ∷ f ∷ g ∷ h ∷ [] =
-    rw (low-first 7 a from-b ha, low-first 6 b from-c hb, low-first 5 c from-d hc, low-first 4 d from-e hd, low-first 3 e from-f he, low-first 2 f from-g hf, low-first 1 g h hg, last-byte h hh) in
-    ap (λ (r : List ℕ). r ++ bytesOf 8 s) all
+    rw (low_first 7 a from-b ha, low_first 6 b from-c hb, low_first 5 c from-d hc, low_first 4 d from-e hd, low_first 3 e from-f he, low_first 2 f from-g hf, low_first 1 g h hg, last_byte h hh) in
+    ap (λ (r : List ℕ). r ++ bytes_of 8 s) all
 
 items-layout : ItemsLayout
-unfolding bytesOf
+unfolding bytes_of
 items-layout =
     record {
       bytes-held = λ s b. b;
       two = two;
-      less-than-two = λ s h. no-item 2 s (omega arith);
+      less-than-two = λ s h. no_item 2 s (omega arith);
       eight = eight;
-      less-than-eight = λ s h. no-item 8 s (omega arith);
-      no-bytes = λ k. refl;
-      two-back = two-back;
+      less-than-eight = λ s h. no_item 8 s (omega arith);
+      no_bytes = λ k. refl;
+      two_back = two_back;
       eight-back = eight-back;
     }
 
 -- An item with its highest bit set is negative.
-negative : (v : ℕ) → 32768 ≤ v → v < 65536 → signedOf v ≡ negℤ (pos (65536 - v))
-unfolding signedOf
+negative : (v : ℕ) → 32768 ≤ v → v < 65536 → signed_of v ≡ neg_ℤ (pos (65536 - v))
+unfolding signed_of
 negative v h l =
     let e : 65536 - v ≡ suc (65535 - v) = omega arith in
     rw (le-ltb v 32768 h, e)
 
 -- The item of a negative number.
-negative-back : (v : ℕ) → 0 < v → v < 65536 → unsignedOf (negℤ (pos v)) ≡ 65536 - v
+negative_back : (v : ℕ) → 0 < v → v < 65536 → unsignedOf (neg_ℤ (pos v)) ≡ 65536 - v
 unfolding unsignedOf
-negative-back (suc v) h l = omega arith
+negative_back (suc v) h l = omega arith
 
 sign-layout : SignLayout
-unfolding signedOf unsignedOf
+unfolding signed_of unsignedOf
 sign-layout =
     record {
-      not-negative = λ v h. rw (lt-ltb v 32768 h);
+      not_negative = λ v h. rw (lt-ltb v 32768 h);
       negative = negative;
       not-negative-back = λ v. refl;
-      negative-back = negative-back;
+      negative_back = negative_back;
     }
 
 -- A value of the table is its eight bytes.
 table-layout : TableLayout
 unfolding value item
-table-layout t k j = simp unary-clauses refl
+table-layout t k j = simp unary_clauses refl
 
 pub layout-claims : LayoutClaims
 layout-claims =

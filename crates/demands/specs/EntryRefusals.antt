@@ -1,29 +1,26 @@
 -- The refusals of the calls on lists of entries. The checks of each call are those of the call on numbers, over the three lists of numbers
 -- that its lists hold. They are claimed of every answer, and of every list or buffers left, that the contract of the call allows.
-use mathlib.Core.Bool.{Bool}
-use mathlib.Core.List.{List}
-use Prim.Native.Nat.{ℕ}
-use lib.ListN.{length}
-use Rattle·coding.specs.Coding.{Outcome, outcome}
-use Rattle·path.specs.Model.{Model, lengths}
-use Rattle·path.specs.Refusal.{Check}
-use Rattle·path.specs.Append.{appendChecks}
-use Rattle·path.specs.declared.PathResult.{PathResult}
-use Rattle·build.specs.Build.{buildChecks}
-use Rattle·select.specs.Select.{selectChecks}
-use Rattle·select.specs.Breakpoints.{BreakpointsOutcome, breakpointsOutcome, breakpointsChecks}
-use Rattle·select.specs.declared.SelectResult.{SelectResult}
-use Rattle·select.specs.declared.BreakpointsResult.{BreakpointsResult}
-use Rattle·hull.specs.Refusals.{RefusesByChecks}
-use Rattle·models.specs.Entries.{listsIn}
-use Rattle·models.specs.declared.Entry.{Entry}
-use Rattle·demands·specs.specs.EntryHistories.{AppendAllows, BuildAllows, SelectAllows, BreakpointsAllows}
+use Rattle.std.specs.Prelude.{Bool, List, ℕ, length}
+use Rattle.coding.specs.Coding.{Outcome, outcome}
+use Rattle.path.specs.Model.{Model, lengths}
+use Rattle.path.specs.Refusal.{Check}
+use Rattle.path.specs.Append.{appendChecks}
+use Rattle.path.specs.declared.PathResult.{PathResult}
+use Rattle.build.specs.Build.{buildChecks}
+use Rattle.select.specs.Select.{selectChecks}
+use Rattle.select.specs.Breakpoints.{BreakpointsOutcome, breakpointsOutcome, breakpointsChecks}
+use Rattle.select.specs.declared.SelectResult.{SelectResult}
+use Rattle.select.specs.declared.BreakpointsResult.{BreakpointsResult}
+use Rattle.hull.specs.Refusals.{RefusesByChecks}
+use Rattle.models.specs.Entries.{listsIn}
+use Rattle.models.specs.declared.Entry.{Entry}
+use Rattle.demands.specs.EntryHistories.{AppendAllows, BuildAllows, SelectAllows, BreakpointsAllows}
 
 -- A call that is lent a list, answers r and leaves the list y answers its checks in order, and a refused one gives its number, zeros, and
 -- the list as it was.
 abbrev pub EntryRefusal : List Check → List Entry → PathResult → List Entry → Type 0
 EntryRefusal checks list r y =
-    RefusesByChecks checks (λ (o : Outcome PathResult (List Entry)). o .answer .refusal)
+    RefusesByChecks checks (λ (o : Outcome PathResult (List Entry)). o.answer.refusal)
     (λ number. outcome (record { refusal = number; entries = 0; tests = record { count = 0 } }) list)
     (outcome r y)
 
@@ -34,11 +31,11 @@ pub record EntryRefusals : Type 0 where
   pub build : (older : Bool) (models list : List Entry) (r : PathResult) (y : List Entry) → BuildAllows older models list r y
       → EntryRefusal (buildChecks (listsIn models) (lengths (listsIn list))) list r y
   pub select : (list : List Entry) (n p q : ℕ) (r : SelectResult) → SelectAllows list n p q r
-      → RefusesByChecks (selectChecks (listsIn list) n p q) (λ (r : SelectResult). r .refusal)
+      → RefusesByChecks (selectChecks (listsIn list) n p q) (λ (r : SelectResult). r.refusal)
       (λ number. record { refusal = number; index = 0; size = 0; loss = 0; weight = 0 })
       r
   pub breakpoints : (list : List Entry) (n : ℕ) (a b : List ℕ) (r : BreakpointsResult) (a' b' : List ℕ)
       → BreakpointsAllows list n a b r a' b'
-      → RefusesByChecks (breakpointsChecks (listsIn list) n (length a) (length b)) (λ (o : BreakpointsOutcome). o .refusal)
+      → RefusesByChecks (breakpointsChecks (listsIn list) n (length a) (length b)) (λ (o : BreakpointsOutcome). o.refusal)
       (λ number. record { refusal = number; count = 0; numerators = a; denominators = b })
       (breakpointsOutcome r a' b')

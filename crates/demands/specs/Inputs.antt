@@ -1,26 +1,19 @@
 -- The input of a report, as far as its lines are in order: notes, a signal, notes, a limit, perhaps notes and weights, and then notes and
 -- penalties. What such lines make the report print, and the checks of a line that follows them. The numbers are written out here from the
 -- rules, so that a report that refuses under others does not meet the claims.
-use mathlib.Core.Path.{_≡_}
-use mathlib.Core.Bool.{Bool, true, false, cond}
-use mathlib.Core.Logic.{_⊎_}
-use mathlib.Core.List.{List, [], _∷_, _++_, map}
-use Prim.Native.Nat.{ℕ, _≤_}
-use lib.Dec.{leb}
-use lib.IntN.{ℤ}
-use lib.ListN.{length}
-use Rattle·path.specs.Model.{Model}
-use Rattle·path.specs.Refusal.{Check, check}
-use Rattle·select.specs.Penalty.{validPenalty}
-use Rattle·weights.specs.Weights.{allInRange, fitting}
-use Rattle·segment.specs.Segment.{maxSamples, Samples16}
-use Rattle·signal.specs.SignalPath.{validLimit}
-use Rattle·text.specs.Text.{bytes}
-use Rattle·text.specs.Notes.{isNote}
-use Rattle·report.specs.Forms.{Form, signal, limit, weights, penalty, note as noteForm, off, waits, formText}
-use Rattle·report.specs.Lines.{refusalLine}
-use Rattle·report.specs.Report.{State, start, recorded, limited, answering, reportPath, pathText, answerText}
-use Rattle·report.specs.Claims.{Written}
+use Rattle.std.specs.Prelude.{◌≡◌, Bool, true, false, cond, ◌⊎◌, List, [], ◌∷◌, ◌++◌, map, ℕ, ◌≤◌, leb, ℤ, length}
+use Rattle.path.specs.Model.{Model}
+use Rattle.path.specs.Refusal.{Check, check}
+use Rattle.select.specs.Penalty.{validPenalty}
+use Rattle.weights.specs.Weights.{allInRange, fitting}
+use Rattle.segment.specs.Segment.{maxSamples, Samples16}
+use Rattle.signal.specs.SignalPath.{validLimit}
+use Rattle.text.specs.Text.{bytes}
+use Rattle.text.specs.Notes.{isNote}
+use Rattle.report.specs.Forms.{Form, signal, limit, weights, penalty, note as noteForm, off, waits, formText}
+use Rattle.report.specs.Lines.{refusalLine}
+use Rattle.report.specs.Report.{State, start, recorded, limited, answering, reportPath, path_text, answerText}
+use Rattle.report.specs.Claims.{Written}
 
 -- A property of each item of a list.
 abbrev pub Each : {A : Type 0} → (A → Type 0) → List A → Type 0
@@ -122,7 +115,7 @@ abbrev pub printedBy : Front → List ℕ
 printedBy (Front.opening notes) = []
 printedBy (Front.with-signal before samples between) = []
 printedBy (Front.with-limit before samples between k weighing later) =
-    cond (asks later) (pathText samples k (weightsIn weighing)) []
+    cond (asks later) (path_text samples k (weightsIn weighing)) []
     ++ laterText samples (reportPath samples k (weightsIn weighing)) later
 
 -- The path, where it is due and has not been printed.
@@ -130,7 +123,7 @@ abbrev pub dueBy : Front → List ℕ
 dueBy (Front.opening notes) = []
 dueBy (Front.with-signal before samples between) = []
 dueBy (Front.with-limit before samples between k weighing later) =
-    cond (asks later) [] (pathText samples k (weightsIn weighing))
+    cond (asks later) [] (path_text samples k (weightsIn weighing))
 
 -- What is printed when a further line is reached, whatever it then gets: a path that is due, unless the line opens `(note` or `(weights`.
 abbrev pub reachedBy : Front → List ℕ → List ℕ

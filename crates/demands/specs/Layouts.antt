@@ -1,24 +1,20 @@
 -- What byte strings, entries and tables spell, written out in numbers: the widths of the items, the order of their bytes, the sign, and
 -- which string holds which list. The claims on byte strings and on entries speak through these.
-use mathlib.Core.Path.{_≡_}
-use mathlib.Core.List.{List, [], _∷_, map}
-use Prim.Native.Nat.{ℕ, _+_, _*_, _-_, _%_, _≤_, _<_}
-use lib.IntN.{ℤ, pos, negℤ}
-use lib.ListN.{length, getD}
-use Rattle·layout.specs.Items.{Bytes, itemsOf, bytesOf, signedOf, unsignedOf}
-use Rattle·coding.specs.Coding.{unsigneds, signeds}
-use Rattle·coding.specs.Models.{modelsCoding}
-use Rattle·path.specs.Model.{Lists}
-use Rattle·models.specs.Entries.{listsIn}
-use Rattle·models.specs.declared.Entry.{Entry}
-use Rattle·signal.specs.SignalPath.{PathBuffers}
-use Rattle·signal.specs.Split.{SplitBuffers}
-use Rattle·stream.specs.Table.{value}
-use Rattle·stream.specs.Extend.{StreamBuffers}
-use Rattle·stream.specs.SplitFrom.{SegmentBuffers}
-use Rattle·byte_paths.specs.Paths.{Fractions, fractionsCoding}
-use Rattle·byte_signals.specs.Signals.{SignalStrings, SignalNumbers, SplitStrings, signalCoding, pathCoding, splitCoding}
-use Rattle·byte_streams.specs.Streams.{SegmentStrings, streamCoding, segmentsCoding}
+use Rattle.std.specs.Prelude.{◌≡◌, List, [], ◌∷◌, map, ℕ, ◌+◌, ◌*◌, ◌-◌, ◌%◌, ◌≤◌, ◌<◌, ℤ, pos, neg_ℤ, length, get_or}
+use Rattle.layout.specs.Items.{Bytes, items_of, bytes_of, signed_of, unsignedOf}
+use Rattle.coding.specs.Coding.{unsigneds, signeds}
+use Rattle.coding.specs.Models.{modelsCoding}
+use Rattle.path.specs.Model.{Lists}
+use Rattle.models.specs.Entries.{listsIn}
+use Rattle.models.specs.declared.Entry.{Entry}
+use Rattle.signal.specs.SignalPath.{PathBuffers}
+use Rattle.signal.specs.Split.{SplitBuffers}
+use Rattle.stream.specs.Table.{value}
+use Rattle.stream.specs.Extend.{StreamBuffers}
+use Rattle.stream.specs.SplitFrom.{SegmentBuffers}
+use Rattle.byte_paths.specs.Paths.{Fractions, fractionsCoding}
+use Rattle.byte_signals.specs.Signals.{SignalStrings, SignalNumbers, SplitStrings, signalCoding, pathCoding, splitCoding}
+use Rattle.byte_streams.specs.Streams.{SegmentStrings, streamCoding, segmentsCoding}
 
 -- The number of eight bytes, the lowest first.
 abbrev pub ofEight : (a b c d e f g h : ℕ) → ℕ
@@ -26,115 +22,115 @@ ofEight a b c d e f g h = a + 256 * (b + 256 * (c + 256 * (d + 256 * (e + 256 * 
 
 -- The items of a string of bytes, and the bytes of a list of items.
 pub record ItemsLayout : Type 0 where
-  pub bytes-held : (s : List ℕ) → ((i : ℕ) → getD s i 0 < 256) → Bytes s
-  pub two : (a b : ℕ) (s : List ℕ) → itemsOf 2 (a ∷ b ∷ s) ≡ (a + 256 * b) ∷ itemsOf 2 s
-  pub less-than-two : (s : List ℕ) → length s < 2 → itemsOf 2 s ≡ []
+  pub bytes-held : (s : List ℕ) → ((i : ℕ) → get_or s i 0 < 256) → Bytes s
+  pub two : (a b : ℕ) (s : List ℕ) → items_of 2 (a ∷ b ∷ s) ≡ (a + 256 * b) ∷ items_of 2 s
+  pub less-than-two : (s : List ℕ) → length s < 2 → items_of 2 s ≡ []
   pub eight : (a b c d e f g h : ℕ) (s : List ℕ)
-      → itemsOf 8 (a ∷ b ∷ c ∷ d ∷ e ∷ f ∷ g ∷ h ∷ s) ≡ ofEight a b c d e f g h ∷ itemsOf 8 s
-  pub less-than-eight : (s : List ℕ) → length s < 8 → itemsOf 8 s ≡ []
-  pub no-bytes : (k : ℕ) → bytesOf k [] ≡ []
-  pub two-back : (a b : ℕ) (s : List ℕ) → a < 256 → b < 256 → bytesOf 2 ((a + 256 * b) ∷ s) ≡ a ∷ b ∷ bytesOf 2 s
+      → items_of 8 (a ∷ b ∷ c ∷ d ∷ e ∷ f ∷ g ∷ h ∷ s) ≡ ofEight a b c d e f g h ∷ items_of 8 s
+  pub less-than-eight : (s : List ℕ) → length s < 8 → items_of 8 s ≡ []
+  pub no_bytes : (k : ℕ) → bytes_of k [] ≡ []
+  pub two_back : (a b : ℕ) (s : List ℕ) → a < 256 → b < 256 → bytes_of 2 ((a + 256 * b) ∷ s) ≡ a ∷ b ∷ bytes_of 2 s
   pub eight-back : (a b c d e f g h : ℕ) (s : List ℕ)
       → a < 256 → b < 256 → c < 256 → d < 256 → e < 256 → f < 256 → g < 256 → h < 256
-      → bytesOf 8 (ofEight a b c d e f g h ∷ s) ≡ a ∷ b ∷ c ∷ d ∷ e ∷ f ∷ g ∷ h ∷ bytesOf 8 s
+      → bytes_of 8 (ofEight a b c d e f g h ∷ s) ≡ a ∷ b ∷ c ∷ d ∷ e ∷ f ∷ g ∷ h ∷ bytes_of 8 s
 
 -- The sign of an item of two bytes, and the item of a number with a sign.
 pub record SignLayout : Type 0 where
-  pub not-negative : (v : ℕ) → v < 32768 → signedOf v ≡ pos v
-  pub negative : (v : ℕ) → 32768 ≤ v → v < 65536 → signedOf v ≡ negℤ (pos (65536 - v))
+  pub not_negative : (v : ℕ) → v < 32768 → signed_of v ≡ pos v
+  pub negative : (v : ℕ) → 32768 ≤ v → v < 65536 → signed_of v ≡ neg_ℤ (pos (65536 - v))
   pub not-negative-back : (v : ℕ) → unsignedOf (pos v) ≡ v
-  pub negative-back : (v : ℕ) → 0 < v → v < 65536 → unsignedOf (negℤ (pos v)) ≡ 65536 - v
+  pub negative_back : (v : ℕ) → 0 < v → v < 65536 → unsignedOf (neg_ℤ (pos v)) ≡ 65536 - v
 
 -- One string of numbers of k bytes each.
 pub record UnsignedLayout (k : ℕ) : Type 0 where
-  pub held : (s : List ℕ) → Bytes s → unsigneds k .Held s
-  pub spare : (s : List ℕ) → unsigneds k .spare s ≡ length s % k
-  pub numbers : (s : List ℕ) → unsigneds k .numbers s ≡ itemsOf k s
-  pub bytes : (x : List ℕ) → unsigneds k .bytes x ≡ bytesOf k x
+  pub held : (s : List ℕ) → Bytes s → (unsigneds k).Held s
+  pub spare : (s : List ℕ) → (unsigneds k).spare s ≡ length s % k
+  pub numbers : (s : List ℕ) → (unsigneds k).numbers s ≡ items_of k s
+  pub bytes : (x : List ℕ) → (unsigneds k).bytes x ≡ bytes_of k x
 
 -- One string of samples.
 pub record SignedLayout : Type 0 where
-  pub held : (s : List ℕ) → Bytes s → signeds .Held s
-  pub spare : (s : List ℕ) → signeds .spare s ≡ length s % 2
-  pub numbers : (s : List ℕ) → signeds .numbers s ≡ map signedOf (itemsOf 2 s)
-  pub bytes : (x : List ℤ) → signeds .bytes x ≡ bytesOf 2 (map unsignedOf x)
+  pub held : (s : List ℕ) → Bytes s → signeds.Held s
+  pub spare : (s : List ℕ) → signeds.spare s ≡ length s % 2
+  pub numbers : (s : List ℕ) → signeds.numbers s ≡ map signed_of (items_of 2 s)
+  pub bytes : (x : List ℤ) → signeds.bytes x ≡ bytes_of 2 (map unsignedOf x)
 
 -- The strings of models or of a path.
 pub record ModelsLayout : Type 0 where
-  pub held : (s : Lists) → Bytes (s .sizes) → Bytes (s .losses) → Bytes (s .weights) → modelsCoding .Held s
-  pub spare : (s : Lists) → modelsCoding .spare s ≡ length (s .sizes) % 2 + (length (s .losses) % 8 + length (s .weights) % 2)
+  pub held : (s : Lists) → Bytes s.sizes → Bytes s.losses → Bytes s.weights → modelsCoding.Held s
+  pub spare : (s : Lists) → modelsCoding.spare s ≡ length s.sizes % 2 + (length s.losses % 8 + length s.weights % 2)
   pub numbers : (s : Lists)
-      → modelsCoding .numbers s
-      ≡ record { sizes = itemsOf 2 (s .sizes); losses = itemsOf 8 (s .losses); weights = itemsOf 2 (s .weights) }
+      → modelsCoding.numbers s
+      ≡ record { sizes = items_of 2 s.sizes; losses = items_of 8 s.losses; weights = items_of 2 s.weights }
   pub bytes : (x : Lists)
-      → modelsCoding .bytes x
-      ≡ record { sizes = bytesOf 2 (x .sizes); losses = bytesOf 8 (x .losses); weights = bytesOf 2 (x .weights) }
+      → modelsCoding.bytes x
+      ≡ record { sizes = bytes_of 2 x.sizes; losses = bytes_of 8 x.losses; weights = bytes_of 2 x.weights }
 
 -- The strings of breakpoints.
 pub record FractionsLayout : Type 0 where
-  pub held : (s : Fractions) → Bytes (s .numerators) → Bytes (s .denominators) → fractionsCoding .Held s
-  pub spare : (s : Fractions) → fractionsCoding .spare s ≡ length (s .numerators) % 8 + length (s .denominators) % 2
+  pub held : (s : Fractions) → Bytes s.numerators → Bytes s.denominators → fractionsCoding.Held s
+  pub spare : (s : Fractions) → fractionsCoding.spare s ≡ length s.numerators % 8 + length s.denominators % 2
   pub numbers : (s : Fractions)
-      → fractionsCoding .numbers s ≡ record { numerators = itemsOf 8 (s .numerators); denominators = itemsOf 2 (s .denominators) }
+      → fractionsCoding.numbers s ≡ record { numerators = items_of 8 s.numerators; denominators = items_of 2 s.denominators }
   pub bytes : (x : Fractions)
-      → fractionsCoding .bytes x ≡ record { numerators = bytesOf 8 (x .numerators); denominators = bytesOf 2 (x .denominators) }
+      → fractionsCoding.bytes x ≡ record { numerators = bytes_of 8 x.numerators; denominators = bytes_of 2 x.denominators }
 
 -- The strings of samples and of weights.
 pub record SignalLayout : Type 0 where
-  pub held : (s : SignalStrings) → Bytes (s .samples) → Bytes (s .weights) → signalCoding .Held s
-  pub spare : (s : SignalStrings) → signalCoding .spare s ≡ length (s .samples) % 2 + length (s .weights) % 2
+  pub held : (s : SignalStrings) → Bytes s.samples → Bytes s.weights → signalCoding.Held s
+  pub spare : (s : SignalStrings) → signalCoding.spare s ≡ length s.samples % 2 + length s.weights % 2
   pub numbers : (s : SignalStrings)
-      → signalCoding .numbers s ≡ record { samples = map signedOf (itemsOf 2 (s .samples)); weights = itemsOf 2 (s .weights) }
+      → signalCoding.numbers s ≡ record { samples = map signed_of (items_of 2 s.samples); weights = items_of 2 s.weights }
   pub bytes : (x : SignalNumbers)
-      → signalCoding .bytes x ≡ record { samples = bytesOf 2 (map unsignedOf (x .samples)); weights = bytesOf 2 (x .weights) }
+      → signalCoding.bytes x ≡ record { samples = bytes_of 2 (map unsignedOf x.samples); weights = bytes_of 2 x.weights }
 
 -- The strings of a path call: those of a path, and the scratch as it is.
 pub record PathLayout : Type 0 where
-  pub held : (s : PathBuffers) → modelsCoding .Held (s .lists) → pathCoding .Held s
-  pub spare : (s : PathBuffers) → pathCoding .spare s ≡ modelsCoding .spare (s .lists)
-  pub numbers : (s : PathBuffers) → pathCoding .numbers s ≡ record { lists = modelsCoding .numbers (s .lists); scratch = s .scratch }
-  pub bytes : (x : PathBuffers) → pathCoding .bytes x ≡ record { lists = modelsCoding .bytes (x .lists); scratch = x .scratch }
+  pub held : (s : PathBuffers) → modelsCoding.Held s.lists → pathCoding.Held s
+  pub spare : (s : PathBuffers) → pathCoding.spare s ≡ modelsCoding.spare s.lists
+  pub numbers : (s : PathBuffers) → pathCoding.numbers s ≡ record { lists = modelsCoding.numbers s.lists; scratch = s.scratch }
+  pub bytes : (x : PathBuffers) → pathCoding.bytes x ≡ record { lists = modelsCoding.bytes x.lists; scratch = x.scratch }
 
 -- The strings of a split: starts, levels, and those of a path call.
 pub record SplitLayout : Type 0 where
-  pub held : (s : SplitStrings) → Bytes (s .starts) → Bytes (s .levels) → pathCoding .Held (s .path) → splitCoding .Held s
+  pub held : (s : SplitStrings) → Bytes s.starts → Bytes s.levels → pathCoding.Held s.path → splitCoding.Held s
   pub spare : (s : SplitStrings)
-      → splitCoding .spare s ≡ length (s .starts) % 2 + (length (s .levels) % 2 + pathCoding .spare (s .path))
+      → splitCoding.spare s ≡ length s.starts % 2 + (length s.levels % 2 + pathCoding.spare s.path)
   pub numbers : (s : SplitStrings)
-      → splitCoding .numbers s
-      ≡ record { starts = itemsOf 2 (s .starts); levels = map signedOf (itemsOf 2 (s .levels)); path = pathCoding .numbers (s .path) }
+      → splitCoding.numbers s
+      ≡ record { starts = items_of 2 s.starts; levels = map signed_of (items_of 2 s.levels); path = pathCoding.numbers s.path }
   pub bytes : (x : SplitBuffers)
-      → splitCoding .bytes x
-      ≡ record { starts = bytesOf 2 (x .starts); levels = bytesOf 2 (map unsignedOf (x .levels)); path = pathCoding .bytes (x .path) }
+      → splitCoding.bytes x
+      ≡ record { starts = bytes_of 2 x.starts; levels = bytes_of 2 (map unsignedOf x.levels); path = pathCoding.bytes x.path }
 
 -- The strings of an extension: the table as it is, and those of a path.
 pub record StreamLayout : Type 0 where
-  pub held : (s : StreamBuffers) → modelsCoding .Held (s .path) → streamCoding .Held s
-  pub spare : (s : StreamBuffers) → streamCoding .spare s ≡ modelsCoding .spare (s .path)
-  pub numbers : (s : StreamBuffers) → streamCoding .numbers s ≡ record { table = s .table; path = modelsCoding .numbers (s .path) }
-  pub bytes : (x : StreamBuffers) → streamCoding .bytes x ≡ record { table = x .table; path = modelsCoding .bytes (x .path) }
+  pub held : (s : StreamBuffers) → modelsCoding.Held s.path → streamCoding.Held s
+  pub spare : (s : StreamBuffers) → streamCoding.spare s ≡ modelsCoding.spare s.path
+  pub numbers : (s : StreamBuffers) → streamCoding.numbers s ≡ record { table = s.table; path = modelsCoding.numbers s.path }
+  pub bytes : (x : StreamBuffers) → streamCoding.bytes x ≡ record { table = x.table; path = modelsCoding.bytes x.path }
 
 -- The strings of a split from a table.
 pub record SegmentsLayout : Type 0 where
-  pub held : (s : SegmentStrings) → Bytes (s .starts) → Bytes (s .levels) → segmentsCoding .Held s
-  pub spare : (s : SegmentStrings) → segmentsCoding .spare s ≡ length (s .starts) % 2 + length (s .levels) % 2
+  pub held : (s : SegmentStrings) → Bytes s.starts → Bytes s.levels → segmentsCoding.Held s
+  pub spare : (s : SegmentStrings) → segmentsCoding.spare s ≡ length s.starts % 2 + length s.levels % 2
   pub numbers : (s : SegmentStrings)
-      → segmentsCoding .numbers s ≡ record { starts = itemsOf 2 (s .starts); levels = map signedOf (itemsOf 2 (s .levels)) }
+      → segmentsCoding.numbers s ≡ record { starts = items_of 2 s.starts; levels = map signed_of (items_of 2 s.levels) }
   pub bytes : (x : SegmentBuffers)
-      → segmentsCoding .bytes x ≡ record { starts = bytesOf 2 (x .starts); levels = bytesOf 2 (map unsignedOf (x .levels)) }
+      → segmentsCoding.bytes x ≡ record { starts = bytes_of 2 x.starts; levels = bytes_of 2 (map unsignedOf x.levels) }
 
 -- The three lists of entries.
 pub record EntriesLayout : Type 0 where
   pub no-entry : listsIn [] ≡ record { sizes = []; losses = []; weights = [] }
   pub entry : (e : Entry) (es : List Entry)
       → listsIn (e ∷ es)
-      ≡ record { sizes = e .size ∷ listsIn es .sizes; losses = e .loss ∷ listsIn es .losses; weights = e .weight ∷ listsIn es .weights }
+      ≡ record { sizes = e.size ∷ (listsIn es).sizes; losses = e.loss ∷ (listsIn es).losses; weights = e.weight ∷ (listsIn es).weights }
 
 -- The number that the eight bytes from the place `at` spell.
 abbrev pub eightFrom : List ℕ → ℕ → ℕ
 eightFrom s at =
-    ofEight (getD s at 0) (getD s (at + 1) 0) (getD s (at + 2) 0) (getD s (at + 3) 0) (getD s (at + 4) 0) (getD s (at + 5) 0)
-    (getD s (at + 6) 0) (getD s (at + 7) 0)
+    ofEight (get_or s at 0) (get_or s (at + 1) 0) (get_or s (at + 2) 0) (get_or s (at + 3) 0) (get_or s (at + 4) 0) (get_or s (at + 5) 0)
+    (get_or s (at + 6) 0) (get_or s (at + 7) 0)
 
 -- The value of k + 1 segments over the first j samples stands in a row of 512, after k rows.
 abbrev pub TableLayout : Type 0

@@ -1,14 +1,8 @@
 -- The rule of notes told by counting brackets: how a note begins, its bytes, and how many brackets are open behind each byte. The numbers
 -- are written out here from the rules, so that notes read under others do not meet the claim.
-use mathlib.Core.Path.{_≡_}
-use mathlib.Core.Bool.{true, cond}
-use mathlib.Core.Logic.{_⊎_}
-use mathlib.Core.List.{List, [], _∷_}
-use Prim.Native.Nat.{ℕ, _+_, _≤_, _<_}
-use lib.Dec.{eqb}
-use lib.ListN.{length, getD, take}
-use Rattle·text.specs.Text.{bytes}
-use Rattle·text.specs.Notes.{isNote}
+use Rattle.std.specs.Prelude.{◌≡◌, true, cond, ◌⊎◌, List, [], ◌∷◌, ℕ, ◌+◌, ◌≤◌, ◌<◌, eqb, length, get_or, take}
+use Rattle.text.specs.Text.{bytes}
+use Rattle.text.specs.Notes.{isNote}
 
 -- How often a byte stands in a text.
 unfoldable pub times : ℕ → List ℕ → ℕ
@@ -27,7 +21,7 @@ closed s = times 41 s
 -- to before its last one 1 to 8 brackets are open, and at its end none is.
 pub record KeepsNotes (line : List ℕ) : Type 0 where
   pub begins : (take 6 line ≡ bytes "(note ") ⊎ (take 6 line ≡ bytes "(note)")
-  pub printable : (i : ℕ) → i < length line → (32 ≤ getD line i 0) × (getD line i 0 ≤ 126)
+  pub printable : (i : ℕ) → i < length line → (32 ≤ get_or line i 0) × (get_or line i 0 ≤ 126)
   pub within : (i : ℕ) → 1 ≤ i → i < length line
       → (closed (take i line) < opened (take i line)) × (opened (take i line) ≤ closed (take i line) + 8)
   pub balanced : opened line ≡ closed line

@@ -1,20 +1,16 @@
 -- Equal fractions are equal penalties, as 1/2 and 2/4 are, for every call that takes a penalty and in every form of it.
-use mathlib.Core.Path.{_≡_}
-use mathlib.Core.Bool.{true}
-use mathlib.Core.List.{List}
-use Prim.Native.Nat.{ℕ, _*_}
-use lib.IntN.{ℤ}
-use Rattle·path.specs.Model.{Lists}
-use Rattle·select.specs.Penalty.{validPenalty}
-use Rattle·select.specs.Select.{selectOf}
-use Rattle·select.specs.declared.SelectResult.{SelectResult}
-use Rattle·models.specs.declared.Entry.{Entry}
-use Rattle·signal.specs.Split.{SplitBuffers, splitOf}
-use Rattle·stream.specs.SplitFrom.{SegmentBuffers, splitFromOf}
-use Rattle·byte_paths.specs.Paths.{selectBytesOf}
-use Rattle·byte_signals.specs.Signals.{SignalStrings, SplitStrings, splitBytesOf}
-use Rattle·byte_streams.specs.Streams.{SegmentStrings, splitFromBytesOf}
-use Rattle·demands·specs.specs.EntryHistories.{SelectAllows}
+use Rattle.std.specs.Prelude.{◌≡◌, true, List, ℕ, ◌*◌, ℤ}
+use Rattle.path.specs.Model.{Lists}
+use Rattle.select.specs.Penalty.{validPenalty}
+use Rattle.select.specs.Select.{selectOf}
+use Rattle.select.specs.declared.SelectResult.{SelectResult}
+use Rattle.models.specs.declared.Entry.{Entry}
+use Rattle.signal.specs.Split.{SplitBuffers, splitOf}
+use Rattle.stream.specs.SplitFrom.{SegmentBuffers, splitFromOf}
+use Rattle.byte_paths.specs.Paths.{selectBytesOf}
+use Rattle.byte_signals.specs.Signals.{SignalStrings, SplitStrings, splitBytesOf}
+use Rattle.byte_streams.specs.Streams.{SegmentStrings, splitFromBytesOf}
+use Rattle.demands.specs.EntryHistories.{SelectAllows}
 
 -- What a call leaves at a penalty is the same at every equal fraction that is a penalty too.
 abbrev pub GoesByValue : {O : Type 0} → (ℕ → ℕ → O) → Type 0
@@ -25,10 +21,10 @@ pub record SamePenalties : Type 0 where
   pub select : (t : Lists) (n : ℕ) → GoesByValue (λ p q. selectOf t n p q)
   pub split : (samples : List ℤ) (limit d : ℕ) (weights : List ℕ) (b : SplitBuffers)
       → GoesByValue (λ p q. splitOf samples limit d weights p q b)
-  pub split-from : (samples : List ℤ) (limit : ℕ) (table : List ℕ) (b : SegmentBuffers)
+  pub split_from : (samples : List ℤ) (limit : ℕ) (table : List ℕ) (b : SegmentBuffers)
       → GoesByValue (λ p q. splitFromOf samples limit p q table b)
   pub byte-select : (x : Lists) (n : ℕ) → GoesByValue (λ p q. selectBytesOf x n p q)
-  pub byte-split : (x : SignalStrings) (limit d : ℕ) (b : SplitStrings) → GoesByValue (λ p q. splitBytesOf x limit d p q b)
+  pub byte_split : (x : SignalStrings) (limit d : ℕ) (b : SplitStrings) → GoesByValue (λ p q. splitBytesOf x limit d p q b)
   pub byte-split-from : (samples : List ℕ) (limit : ℕ) (table : List ℕ) (b : SegmentStrings)
       → GoesByValue (λ p q. splitFromBytesOf samples limit p q table b)
   pub entry-select : (list : List Entry) (n : ℕ) (answers : ℕ → ℕ → SelectResult)

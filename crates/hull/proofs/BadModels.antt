@@ -1,76 +1,76 @@
 -- A build is refused for a model as its appends in turn are: at the first model whose append is refused, and under the same number.
-use mathlib.Core.Path.{_≡_, refl, ap, sym, _∙_}
+use mathlib.Core.Path.{◌≡◌, refl, ap, sym, ◌∙◌}
 use mathlib.Core.Bool.{Bool, true, false, false≢true}
-use mathlib.Core.Logic.{inl, inr, ⊎-elim}
-use mathlib.Core.List.{List, [], _∷_, _++_}
-use Prim.Native.Nat.{ℕ, zero, suc, _+_, _≤_, _<_}
+use mathlib.Core.Logic.{inl, inr, ⊎_elim}
+use mathlib.Core.List.{List, [], ◌∷◌, ◌++◌}
+use Prim.Native.Nat.{ℕ, zero, suc, ◌+◌, ◌≤◌, ◌<◌}
 use native.Mathlib.Nat.{eq-zero-or-pos, not-suc-le-zero, zero-add}
 use native.Mathlib.Numerals.{add-one}
 use native.Mathlib.Omega.{arith}
-use lib.ListN.{length, getD, List·getD-eq-default}
+use lib.ListN.{length, get_or, get_or-eq_default}
 use borrow.Author.Tests.{leb-true}
-use Rattle·path.specs.Model.{Model, Lists, lengths, modelAt, pathOf}
-use Rattle·path.specs.Update.{joined}
-use Rattle·path.specs.Refusal.{Check, check, refusalOf, roomFor, maxModels, inRange, validPath, modelChecks}
-use Rattle·path.specs.Append.{PathOutcome, appendOf}
-use Rattle·path.specs.Inner.{HasPlaces}
-use Rattle·path.proofs.Checks.{check-passes, passed}
-use Rattle·path.proofs.Order.{within, Passes, model-passes, model-accepted, out-of-range, places-parts, places-whole, places-fewer}
-use Rattle·path.proofs.Buffers.{path-overwritten}
-use Rattle·path.proofs.Cases.{append-refusal, append-accepted, input-refused, appendable}
-use Rattle·build.specs.Build.{built, countOf, checksAt, listChecks}
-use Rattle·build.proofs.Lists.{lacks-value, lacks-nothing, none-left, bad-model, good-model}
-use Rattle·build.proofs.Cases.{bad-list, build-refusal}
-use Rattle·hull·specs.specs.History.{State, emptyState, afterAppend, appends, pathAt}
-use Rattle·hull·specs.specs.Refusals.{FirstFailure}
-use Rattle·hull·specs.specs.Claims.{modelsFrom, OfModel, AllAccepted, BadModel, BuildRefusalClaim}
-use Rattle·hull·proofs.proofs.Slopes.{less-or-not}
-use Rattle·hull·proofs.proofs.Orders.{path-refusals, failure-answers}
-use Rattle·hull·proofs.proofs.Appends.{standing-empty, standing-appends}
-use Rattle·hull·proofs.proofs.Builds.{Reached, reached-none, reached-next}
+use Rattle.path.specs.Model.{Model, Lists, lengths, model_at, pathOf}
+use Rattle.path.specs.Update.{joined}
+use Rattle.path.specs.Refusal.{Check, check, refusalOf, room_for, maxModels, in_range, validPath, modelChecks}
+use Rattle.path.specs.Append.{PathOutcome, appendOf}
+use Rattle.path.specs.Inner.{HasPlaces}
+use Rattle.path.proofs.Checks.{check-passes, passed}
+use Rattle.path.proofs.Order.{within, Passes, model-passes, model-accepted, out_of_range, places-parts, places-whole, places-fewer}
+use Rattle.path.proofs.Buffers.{path-overwritten}
+use Rattle.path.proofs.Cases.{append-refusal, append-accepted, input-refused, appendable}
+use Rattle.build.specs.Build.{built, count_of, checksAt, listChecks}
+use Rattle.build.proofs.Lists.{lacks-value, lacks-nothing, none_left, bad-model, good-model}
+use Rattle.build.proofs.Cases.{bad-list, build-refusal}
+use Rattle.hull.specs.History.{State, emptyState, afterAppend, appends, pathAt}
+use Rattle.hull.specs.Refusals.{FirstFailure}
+use Rattle.hull.specs.Claims.{modelsFrom, OfModel, AllAccepted, BadModel, BuildRefusalClaim}
+use Rattle.hull.proofs.Slopes.{less-or-not}
+use Rattle.hull.proofs.Orders.{path-refusals, failure-answers}
+use Rattle.hull.proofs.Appends.{standing-empty, standing-appends}
+use Rattle.hull.proofs.Builds.{Reached, reached-none, reached-next}
 
 -- The number of a check of a model is none of the others of a build or of an append.
 record NoOther (c : ℕ) : Type 0 where
   pub above : 2 < c
-  pub not-eight : 8 ≡ c → ⊥
+  pub not_eight : 8 ≡ c → ⊥
   pub not-nine : 9 ≡ c → ⊥
 
-no-other : (c : ℕ) → OfModel c → NoOther c
-no-other c (inl e) = record { above = omega arith; not-eight = λ f. omega arith; not-nine = λ f. omega arith }
-no-other c (inr (inl e)) = record { above = omega arith; not-eight = λ f. omega arith; not-nine = λ f. omega arith }
-no-other c (inr (inr (inl e))) = record { above = omega arith; not-eight = λ f. omega arith; not-nine = λ f. omega arith }
-no-other c (inr (inr (inr e))) = record { above = omega arith; not-eight = λ f. omega arith; not-nine = λ f. omega arith }
+no_other : (c : ℕ) → OfModel c → NoOther c
+no_other c (inl e) = record { above = omega arith; not_eight = λ f. omega arith; not-nine = λ f. omega arith }
+no_other c (inr (inl e)) = record { above = omega arith; not_eight = λ f. omega arith; not-nine = λ f. omega arith }
+no_other c (inr (inr (inl e))) = record { above = omega arith; not_eight = λ f. omega arith; not-nine = λ f. omega arith }
+no_other c (inr (inr (inr e))) = record { above = omega arith; not_eight = λ f. omega arith; not-nine = λ f. omega arith }
 
 -- A failure that is not that of the last check is one of those before it.
-before-last : (cs : List Check) (d : Check) (c : ℕ) → (d .number ≡ c → ⊥) → FirstFailure (cs ++ (d ∷ [])) c → FirstFailure cs c
-before-last [] d c other f = ⊎-elim (λ g. absurd (other (g .1))) (λ g. g .1) f
-before-last (e ∷ cs) d c other f = ⊎-elim inl (λ g. inr (g .0, before-last cs d c other (g .1))) f
+before_last : (cs : List Check) (d : Check) (c : ℕ) → (d.number ≡ c → ⊥) → FirstFailure (cs ++ (d ∷ [])) c → FirstFailure cs c
+before_last [] d c other f = ⊎_elim (λ g. absurd (other g.1)) (λ g. g.1) f
+before_last (e ∷ cs) d c other f = ⊎_elim inl (λ g. inr (g.0, before_last cs d c other g.1)) f
 
 -- A value that is lacking is read as 0.
-not-lacking : (values : List ℕ) (i : ℕ) → 1 ≤ getD values i 0 → i < length values
+not-lacking : (values : List ℕ) (i : ℕ) → 1 ≤ get_or values i 0 → i < length values
 not-lacking values i h =
-    ⊎-elim (λ l. l) (λ (l : length values ≤ i). absurd (omega (arith, List·getD-eq-default values 0 l))) (less-or-not i (length values))
+    ⊎_elim (λ l. l) (λ (l : length values ≤ i). absurd (omega (arith, get_or-eq_default values 0 l))) (less-or-not i (length values))
 
 -- The checks of model i.
 module _ (a : Lists) where
   -- Where there is no loss for a model, its checks answer 5.
-  no-loss : (i : ℕ) → length (a .losses) ≤ i → refusalOf (checksAt a i) ≡ 5
-  no-loss i h = by-test (roomFor (i + 1) (lengths a)) refl
+  no-loss : (i : ℕ) → length a.losses ≤ i → refusalOf (checksAt a i) ≡ 5
+  no-loss i h = by-test (room_for (i + 1) (lengths a)) refl
     where
-      by-test : (b : Bool) → roomFor (i + 1) (lengths a) ≡ b → refusalOf (checksAt a i) ≡ 5
-      by-test true f = absurd (omega (arith, places-parts a (i + 1) f .in-losses))
+      by-test : (b : Bool) → room_for (i + 1) (lengths a) ≡ b → refusalOf (checksAt a i) ≡ 5
+      by-test true f = absurd (omega (arith, (places-parts a (i + 1) f).in-losses))
       by-test false f = lacks-value a i f
 
   -- Where there is one, they answer as those of the model that is read do.
-  some-loss : (i : ℕ) → i < length (a .losses) → refusalOf (checksAt a i) ≡ refusalOf (modelChecks (built a i) (modelAt a i))
-  some-loss i h = by-tests (roomFor (i + 1) (lengths a)) (inRange (modelAt a i)) refl refl
+  some-loss : (i : ℕ) → i < length a.losses → refusalOf (checksAt a i) ≡ refusalOf (modelChecks (built a i) (model_at a i))
+  some-loss i h = by_tests (room_for (i + 1) (lengths a)) (in_range (model_at a i)) refl refl
     where
-      by-tests : (b r : Bool) → roomFor (i + 1) (lengths a) ≡ b → inRange (modelAt a i) ≡ r → refusalOf (checksAt a i) ≡ refusalOf (modelChecks (built a i) (modelAt a i))
-      by-tests true r f g = lacks-nothing a i f
-      by-tests false false f g = lacks-value a i f ∙ sym (out-of-range (built a i) (modelAt a i) g)
-      by-tests false true f g =
-          let w = within (modelAt a i) g in
-          let places : HasPlaces a (i + 1) = record { in-sizes = omega (arith, not-lacking (a .sizes) i (w .positive)); in-losses = omega arith; in-weights = omega (arith, not-lacking (a .weights) i (w .weighs)) } in
+      by_tests : (b r : Bool) → room_for (i + 1) (lengths a) ≡ b → in_range (model_at a i) ≡ r → refusalOf (checksAt a i) ≡ refusalOf (modelChecks (built a i) (model_at a i))
+      by_tests true r f g = lacks-nothing a i f
+      by_tests false false f g = lacks-value a i f ∙ sym (out_of_range (built a i) (model_at a i) g)
+      by_tests false true f g =
+          let w = within (model_at a i) g in
+          let places : HasPlaces a (i + 1) = record { in-sizes = omega (arith, not-lacking a.sizes i w.positive); in-losses = omega arith; in-weights = omega (arith, not-lacking a.weights i w.weighs) } in
           absurd (false≢true (sym f ∙ places-whole a (i + 1) places))
 
   module _ (t : Lists) (c : ℕ) (other : NoOther c) where
@@ -78,78 +78,78 @@ module _ (a : Lists) where
     record Found (x : State) (i m : ℕ) : Type 0 where
       pub k : ℕ
       pub few : k < m
-      pub losses : i + k ≤ length (a .losses)
+      pub losses : i + k ≤ length a.losses
       pub accepted : AllAccepted x (modelsFrom a i k)
       pub reached : Reached a t (appends x (modelsFrom a i k)) (i + k)
       pub refused : refusalOf (checksAt a (i + k)) ≡ c
 
-    find : (m i : ℕ) (x : State) → Reached a t x i → HasPlaces t (i + m) → i + m ≤ maxModels → i ≤ length (a .losses) → refusalOf (listChecks a i m) ≡ c → Found x i m
+    find : (m i : ℕ) (x : State) → Reached a t x i → HasPlaces t (i + m) → i + m ≤ maxModels → i ≤ length a.losses → refusalOf (listChecks a i m) ≡ c → Found x i m
     unfolding appends
-    find zero i x h fits most there e = absurd (omega (arith, none-left a i 0 refl, other .above))
+    find zero i x h fits most there e = absurd (omega (arith, none_left a i 0 refl, other.above))
     find (suc m) i x h fits most there e =
-        ⊎-elim (on (find m (suc i) (afterAppend x (modelAt a i)))) (λ (p : 0 < refusalOf (checksAt a i)). here (λ z. omega arith)) (eq-zero-or-pos (refusalOf (checksAt a i)))
+        ⊎_elim (on (find m (suc i) (afterAppend x (model_at a i)))) (λ (p : 0 < refusalOf (checksAt a i)). here (λ z. omega arith)) (eq-zero-or-pos (refusalOf (checksAt a i)))
       where
         here : (refusalOf (checksAt a i) ≡ 0 → ⊥) → Found x i (suc m)
         here ne =
             let z : i + 0 ≡ i = omega arith in
             record { k = 0; few = omega arith; losses = omega arith; accepted = tt; reached = rw z h; refused = rw z (sym (bad-model a i (suc m) _ (omega arith) refl ne) ∙ e) }
 
-        on : (Reached a t (afterAppend x (modelAt a i)) (suc i) → HasPlaces t (suc i + m) → suc i + m ≤ maxModels → suc i ≤ length (a .losses) → refusalOf (listChecks a (suc i) m) ≡ c → Found (afterAppend x (modelAt a i)) (suc i) m)
+        on : (Reached a t (afterAppend x (model_at a i)) (suc i) → HasPlaces t (suc i + m) → suc i + m ≤ maxModels → suc i ≤ length a.losses → refusalOf (listChecks a (suc i) m) ≡ c → Found (afterAppend x (model_at a i)) (suc i) m)
             → refusalOf (checksAt a i) ≡ 0 → Found x i (suc m)
         on later good =
-            let checks = passed (check 5 (roomFor (i + 1) (lengths a))) _ (omega arith) good in
-            let passes = model-passes (built a i) (modelAt a i) (checks .1) in
+            let checks = passed (check 5 (room_for (i + 1) (lengths a))) _ (omega arith) good in
+            let passes = model-passes (built a i) (model_at a i) checks.1 in
             let next = reached-next a t x i h (places-fewer t (i + suc m) (i + 1) fits (omega arith)) (omega arith) passes in
             let r : i + suc m ≡ suc i + m = omega arith in
             let rest : refusalOf (listChecks a (suc i) m) ≡ c = rw add-one at (sym (good-model a i (suc m) m refl good) ∙ e) in
-            let f = later (next .1) (rw r at fits) (omega arith) (omega (arith, places-parts a (i + 1) (checks .0) .in-losses)) rest in
-            let s : i + suc (f .k) ≡ suc i + f .k = omega arith in
-            record { k = suc (f .k); few = omega (arith, f .few); losses = omega (arith, f .losses); accepted = (next .0, f .accepted); reached = rw s (f .reached); refused = rw s (f .refused) }
+            let f = later next.1 (rw r at fits) (omega arith) (omega (arith, (places-parts a (i + 1) checks.0).in-losses)) rest in
+            let s : i + suc f.k ≡ suc i + f.k = omega arith in
+            record { k = suc f.k; few = omega (arith, f.few); losses = omega (arith, f.losses); accepted = (next.0, f.accepted); reached = rw s f.reached; refused = rw s f.refused }
 
     -- That model is bad, after a valid path of the models before it.
-    is-bad : (x : State) (i : ℕ) → validPath (x .buffers) (x .entries) ≡ true → pathAt x ≡ built a i → refusalOf (checksAt a i) ≡ c → BadModel a x i c
+    is-bad : (x : State) (i : ℕ) → validPath x.buffers x.entries ≡ true → pathAt x ≡ built a i → refusalOf (checksAt a i) ≡ c → BadModel a x i c
     is-bad x i v path e =
-        ⊎-elim
-        (λ (l : i < length (a .losses)).
-        let m = modelAt a i in
+        ⊎_elim
+        (λ (l : i < length a.losses).
+        let m = model_at a i in
         let fails : c ≡ refusalOf (modelChecks (pathAt x) m) = rw path (sym e ∙ some-loss i l) in
-        let whole = fails ∙ sym (check-passes (check 8 (validPath (x .buffers) (x .entries))) (modelChecks (pathAt x) m) v) in
-        inr (l, ap (λ (o : PathOutcome). o .refusal) (sym (input-refused (x .buffers) (x .entries) m c whole (λ z. omega (arith, other .above))))))
-        (λ (l : length (a .losses) ≤ i). inl (l, sym e ∙ no-loss i l))
-        (less-or-not i (length (a .losses)))
+        let whole = fails ∙ sym (check-passes (check 8 (validPath x.buffers x.entries)) (modelChecks (pathAt x) m) v) in
+        inr (l, ap (λ (o : PathOutcome). o.refusal) (sym (input-refused x.buffers x.entries m c whole (λ z. omega (arith, other.above))))))
+        (λ (l : length a.losses ≤ i). inl (l, sym e ∙ no-loss i l))
+        (less-or-not i (length a.losses))
 
     -- A bad model fails its checks.
     bad-fails : (x : State) (i : ℕ) → pathAt x ≡ built a i → BadModel a x i c → refusalOf (checksAt a i) ≡ c
-    bad-fails x i path (inl g) = no-loss i (g .0) ∙ sym (g .1)
+    bad-fails x i path (inl g) = no-loss i g.0 ∙ sym g.1
     bad-fails x i path (inr g) =
-        let m = modelAt a i in
-        let first = path-refusals .append (x .buffers) (x .entries) m .in-order .refused-only-if c (omega (arith, other .above)) (g .1) in
-        let fails = ⊎-elim (λ f. absurd (other .not-eight (f .1))) (λ f. before-last (modelChecks (pathAt x) m) _ c (other .not-nine) (f .1)) first in
-        some-loss i (g .0) ∙ rw path at (failure-answers (modelChecks (pathAt x) m) c fails)
+        let m = model_at a i in
+        let first = (path-refusals.append x.buffers x.entries m).in_order.refused-only-if c (omega (arith, other.above)) g.1 in
+        let fails = ⊎_elim (λ f. absurd (other.not_eight f.1)) (λ f. before_last (modelChecks (pathAt x) m) _ c other.not-nine f.1) first in
+        some-loss i g.0 ∙ rw path at (failure-answers (modelChecks (pathAt x) m) c fails)
 
     -- An accepted append leaves the path of one model more.
-    path-next : (x : State) (i : ℕ) → pathAt x ≡ built a i → appendOf (x .buffers) (x .entries) (modelAt a i) .refusal ≡ 0
-        → Passes (built a i) (modelAt a i) × (pathAt (afterAppend x (modelAt a i)) ≡ built a (suc i))
+    path-next : (x : State) (i : ℕ) → pathAt x ≡ built a i → (appendOf x.buffers x.entries (model_at a i)).refusal ≡ 0
+        → Passes (built a i) (model_at a i) × (pathAt (afterAppend x (model_at a i)) ≡ built a (suc i))
     unfolding built
     path-next x i path e =
-        let m = modelAt a i in
-        let checks = sym (append-refusal (x .buffers) (x .entries) m) ∙ e in (
-          rw path at (appendable (x .buffers) (x .entries) m checks .input .passes),
-          rw (append-accepted (x .buffers) (x .entries) m checks) (path-overwritten (joined (pathAt x) m) (x .entries) (x .buffers) ∙ ap (λ (r : List Model). joined r m) path),
+        let m = model_at a i in
+        let checks = sym (append-refusal x.buffers x.entries m) ∙ e in (
+          rw path at (appendable x.buffers x.entries m checks).input.passes,
+          rw (append-accepted x.buffers x.entries m checks) (path-overwritten (joined (pathAt x) m) x.entries x.buffers ∙ ap (λ (r : List Model). joined r m) path),
         )
 
     -- So m models from i on fail, of which k have losses and are accepted and the next one is bad.
-    fails-from : (k m i : ℕ) (x : State) → pathAt x ≡ built a i → k < m → i + k ≤ length (a .losses) → AllAccepted x (modelsFrom a i k) → BadModel a (appends x (modelsFrom a i k)) (i + k) c → refusalOf (listChecks a i m) ≡ c
+    fails-from : (k m i : ℕ) (x : State) → pathAt x ≡ built a i → k < m → i + k ≤ length a.losses → AllAccepted x (modelsFrom a i k) → BadModel a (appends x (modelsFrom a i k)) (i + k) c → refusalOf (listChecks a i m) ≡ c
     unfolding appends
     fails-from k zero i x path few losses g b = absurd (not-suc-le-zero few)
     fails-from zero (suc m) i x path few losses g b =
         let z : i + 0 ≡ i = omega arith in
-        bad-model a i (suc m) c (omega arith) (bad-fails x i path (rw z at b)) (λ e. omega (arith, other .above))
+        bad-model a i (suc m) c (omega arith) (bad-fails x i path (rw z at b)) (λ e. omega (arith, other.above))
     fails-from (suc k) (suc m) i x path few losses g b =
         let s : i + suc k ≡ suc i + k = omega arith in
-        let next = path-next x i path (g .0) in
-        let later = fails-from k m (suc i) (afterAppend x (modelAt a i)) (next .1) (omega arith) (omega arith) (g .1) (rw s at b) in
-        let good = some-loss i (omega arith) ∙ model-accepted (built a i) (modelAt a i) (next .0) in
+        let next = path-next x i path g.0 in
+        let later = fails-from k m (suc i) (afterAppend x (model_at a i)) next.1 (omega arith) (omega arith) g.1 (rw s at b) in
+        let good = some-loss i (omega arith) ∙ model-accepted (built a i) (model_at a i) next.0 in
         good-model a i (suc m) m refl good ∙ rw add-one later
 
 pub build-refusal-claim : BuildRefusalClaim
@@ -157,21 +157,21 @@ unfolding built pathOf
 build-refusal-claim =
     record {
       refused-only-if = λ a t u c h room e.
-          let other = no-other c h in
-          let n = countOf a in
-          let first = path-refusals .build a t .in-order .refused-only-if c (omega (arith, other .above)) e in
-          let second = ⊎-elim (λ f. absurd (omega (arith, f .1, other .above))) (λ f. f .1) first in
-          let few = ⊎-elim (λ f. absurd (omega (arith, f .1, other .above))) (λ f. leb-true n maxModels (f .0)) second in
-          let fails = ⊎-elim (λ f. absurd (omega (arith, f .1, other .above))) (λ f. before-last (listChecks a 0 n) _ c (other .not-nine) (f .1)) second in
+          let other = no_other c h in
+          let n = count_of a in
+          let first = (path-refusals.build a t).in_order.refused-only-if c (omega (arith, other.above)) e in
+          let second = ⊎_elim (λ f. absurd (omega (arith, f.1, other.above))) (λ f. f.1) first in
+          let few = ⊎_elim (λ f. absurd (omega (arith, f.1, other.above))) (λ f. leb-true n maxModels f.0) second in
+          let fails = ⊎_elim (λ f. absurd (omega (arith, f.1, other.above))) (λ f. before_last (listChecks a 0 n) _ c other.not-nine f.1) second in
           let found = find a u c other n 0 (emptyState u) (reached-none a u) (rw (zero-add n) (places-parts u n room)) (omega arith) (omega arith) (failure-answers (listChecks a 0 n) c fails) in
-          let before = modelsFrom a 0 (found .k) in
-          let valid = standing-appends before (emptyState u) (standing-empty u) .valid in
-          let z = zero-add (found .k) in
-          let bad = is-bad a u c other (appends (emptyState u) before) (found .k) valid (rw z at (found .reached .holds .held .is)) (rw z at (found .refused)) in
-          (found .k, record { inside = found .few; losses-there = rw z at (found .losses); earlier-accepted = found .accepted; bad = bad });
+          let before = modelsFrom a 0 found.k in
+          let valid = (standing-appends before (emptyState u) (standing-empty u)).valid in
+          let z = zero-add found.k in
+          let bad = is-bad a u c other (appends (emptyState u) before) found.k valid (rw z at found.reached.holds.held.is) (rw z at found.refused) in
+          (found.k, record { inside = found.few; losses-there = rw z at found.losses; earlier-accepted = found.accepted; bad = bad });
       refused-if = λ a t u i c h few b.
-          let other = no-other c h in
-          let n = countOf a in
-          let fails = fails-from a u c other i n 0 (emptyState u) refl (b .inside) (omega (arith, b .losses-there)) (b .earlier-accepted) (rw (zero-add i) (b .bad)) in
-          build-refusal a t ∙ bad-list a (lengths t) n (λ z. omega (arith, b .inside)) few c (sym fails) (λ z. omega (arith, other .above));
+          let other = no_other c h in
+          let n = count_of a in
+          let fails = fails-from a u c other i n 0 (emptyState u) refl b.inside (omega (arith, b.losses-there)) b.earlier-accepted (rw (zero-add i) b.bad) in
+          build-refusal a t ∙ bad-list a (lengths t) n (λ z. omega (arith, b.inside)) few c (sym fails) (λ z. omega (arith, other.above));
     }

@@ -1,16 +1,16 @@
 -- The laws of lists of items: reading and writing one item more, and that bytes are got back from their items and items from
 -- their bytes. All hold for every width.
-use mathlib.Core.Path.{_≡_, refl, ap, sym, _∙_}
-use mathlib.Core.List.{List, [], _∷_, _++_, append-assoc, append-nil, map}
-use Prim.Native.Nat.{ℕ, zero, suc, _+_, _*_, _-_, _/_, _%_, _^_, _≤_, _<_}
-use native.Mathlib.Nat.{pow-suc, mul-suc, add-suc, add-zero, mul-zero, mul-le-mul-left}
+use mathlib.Core.Path.{◌≡◌, refl, ap, sym, ◌∙◌}
+use mathlib.Core.List.{List, [], ◌∷◌, ◌++◌, append_assoc, append-nil, map}
+use Prim.Native.Nat.{ℕ, zero, suc, ◌+◌, ◌*◌, ◌-◌, ◌/◌, ◌%◌, ◌^◌, ◌≤◌, ◌<◌}
+use native.Mathlib.Nat.{pow-suc, mul-suc, add-suc, add-zero, mul-zero, mul-le-mul_left}
 use native.Mathlib.Omega.{arith}
-use lib.ListN.{length, getD, set, take, drop, length-set, length-append, length-drop, take-append-drop, drop-of-length-le, length-map, List·getD-map}
-use lib.Seq.{drop-cons, take-suc, take-at, drop-at, drop-drop, take-add, take-append-le, take-suc-set, drop-set-lt, take-all, append-snoc, getD-at, getD-take, getD-set-same, take-set-le, take-length, getD-append-add, length-take-le, drop-append-add, set-at, ext-getD}
-use Rattle·layout·specs.specs.Item.{item, setItem}
-use Rattle·layout·specs.specs.Items.{Bytes, itemsTo, itemBytes, bytesOf, signedOf, unsignedOf}
+use lib.ListN.{length, get_or, set, take, drop, length-set, length-append, length-drop, take-append-drop, drop_of_length-le, length-map, get_or-map}
+use lib.Seq.{drop-cons, take-suc, take_at, drop_at, drop-drop, take-add, take-append-le, take-suc-set, drop-set-lt, take_all, append_snoc, get_or_at, get_or-take, get_or-set_same, take-set-le, take-length, get_or-append-add, length-take-le, drop-append-add, set_at, ext_get_or}
+use Rattle.layout.specs.Item.{item, setItem}
+use Rattle.layout.specs.Items.{Bytes, itemsTo, itemBytes, bytes_of, signed_of, unsignedOf}
 use lib.IntN.{ℤ, pos}
-use Rattle·layout·proofs.proofs.Laws.{item-low, length-setItem}
+use Rattle.layout.proofs.Laws.{item-low, length-setItem}
 
 -- The first n items are n items.
 pub length-items : (k : ℕ) (bytes : List ℕ) (n : ℕ) → length (itemsTo k bytes n) ≡ n
@@ -19,23 +19,23 @@ length-items k bytes zero = refl
 length-items k bytes (suc n) = length-append (itemsTo k bytes n) (item k bytes (k * n) ∷ []) ∙ omega (arith, length-items k bytes n)
 
 -- The first c items of more.
-take-more : (k : ℕ) (bytes : List ℕ) (c d : ℕ) → take c (itemsTo k bytes (c + d)) ≡ itemsTo k bytes c
+take_more : (k : ℕ) (bytes : List ℕ) (c d : ℕ) → take c (itemsTo k bytes (c + d)) ≡ itemsTo k bytes c
 unfolding itemsTo
-take-more k bytes c zero = rw add-zero (take-all c (itemsTo k bytes c) (omega (arith, length-items k bytes c)))
-take-more k bytes c (suc d) =
-    rw add-suc (take-append-le c (itemsTo k bytes (c + d)) (item k bytes (k * (c + d)) ∷ []) (omega (arith, length-items k bytes (c + d))) ∙ take-more k bytes c d)
+take_more k bytes c zero = rw add-zero (take_all c (itemsTo k bytes c) (omega (arith, length-items k bytes c)))
+take_more k bytes c (suc d) =
+    rw add-suc (take-append-le c (itemsTo k bytes (c + d)) (item k bytes (k * (c + d)) ∷ []) (omega (arith, length-items k bytes (c + d))) ∙ take_more k bytes c d)
 
 pub take-items : (k : ℕ) (bytes : List ℕ) (c n : ℕ) → c ≤ n → take c (itemsTo k bytes n) ≡ itemsTo k bytes c
 take-items k bytes c n h =
-    let e : n ≡ c + (n - c) = omega arith in ap (λ (m : ℕ). take c (itemsTo k bytes m)) e ∙ take-more k bytes c (n - c)
+    let e : n ≡ c + (n - c) = omega arith in ap (λ (m : ℕ). take c (itemsTo k bytes m)) e ∙ take_more k bytes c (n - c)
 
 -- The item at place i.
-pub item-at : (k : ℕ) (bytes : List ℕ) (n i : ℕ) → i < n → getD (itemsTo k bytes n) i 0 ≡ item k bytes (k * i)
+pub item-at : (k : ℕ) (bytes : List ℕ) (n i : ℕ) → i < n → get_or (itemsTo k bytes n) i 0 ≡ item k bytes (k * i)
 unfolding itemsTo
 item-at k bytes n i h =
-    sym (getD-take (suc i) (itemsTo k bytes n) i 0 (omega arith))
-    ∙ ap (λ (xs : List ℕ). getD xs i 0) (take-items k bytes (suc i) n h)
-    ∙ getD-at (itemsTo k bytes i) (item k bytes (k * i)) [] 0 i (length-items k bytes i)
+    sym (get_or-take (suc i) (itemsTo k bytes n) i 0 (omega arith))
+    ∙ ap (λ (xs : List ℕ). get_or xs i 0) (take-items k bytes (suc i) n h)
+    ∙ get_or_at (itemsTo k bytes i) (item k bytes (k * i)) [] 0 i (length-items k bytes i)
 
 -- A number's bytes are k bytes.
 length-itemBytes : (k v : ℕ) → length (itemBytes k v) ≡ k
@@ -52,95 +52,95 @@ put-spells (suc k) bytes at v h =
     let e : suc at + k ≡ at + suc k = omega arith in
     put-spells k next (suc at) (v / 256) (omega (arith, length-set bytes at (v % 256)))
     ∙ rw (take-suc-set bytes at (v % 256) (omega arith), drop-set-lt (suc at + k) bytes at (v % 256) (omega arith), e)
-    (append-snoc (take at bytes) (v % 256) (itemBytes k (v / 256) ++ drop (at + suc k) bytes))
+    (append_snoc (take at bytes) (v % 256) (itemBytes k (v / 256) ++ drop (at + suc k) bytes))
 
 -- The bytes of two lists of items.
-pub bytes-append : (k : ℕ) (xs ys : List ℕ) → bytesOf k (xs ++ ys) ≡ bytesOf k xs ++ bytesOf k ys
-unfolding bytesOf
+pub bytes-append : (k : ℕ) (xs ys : List ℕ) → bytes_of k (xs ++ ys) ≡ bytes_of k xs ++ bytes_of k ys
+unfolding bytes_of
 bytes-append k [] ys = refl
-bytes-append k (x ∷ xs) ys = ap (λ (r : List ℕ). itemBytes k x ++ r) (bytes-append k xs ys) ∙ sym (append-assoc (itemBytes k x) (bytesOf k xs) (bytesOf k ys))
+bytes-append k (x ∷ xs) ys = ap (λ (r : List ℕ). itemBytes k x ++ r) (bytes-append k xs ys) ∙ sym (append_assoc (itemBytes k x) (bytes_of k xs) (bytes_of k ys))
 
-bytes-one : (k v : ℕ) → bytesOf k (v ∷ []) ≡ itemBytes k v
-unfolding bytesOf
-bytes-one k v = append-nil (itemBytes k v)
+bytes_one : (k v : ℕ) → bytes_of k (v ∷ []) ≡ itemBytes k v
+unfolding bytes_of
+bytes_one k v = append-nil (itemBytes k v)
 
-pub length-bytes : (k : ℕ) (xs : List ℕ) → length (bytesOf k xs) ≡ k * length xs
-unfolding bytesOf
+pub length-bytes : (k : ℕ) (xs : List ℕ) → length (bytes_of k xs) ≡ k * length xs
+unfolding bytes_of
 length-bytes k [] = sym (mul-zero k)
 length-bytes k (x ∷ xs) =
-    length-append (itemBytes k x) (bytesOf k xs) ∙ omega (arith, length-itemBytes k x, length-bytes k xs, mul-suc k (length xs))
+    length-append (itemBytes k x) (bytes_of k xs) ∙ omega (arith, length-itemBytes k x, length-bytes k xs, mul-suc k (length xs))
 
 -- An item's bytes are got back.
 item-bytes-back : (k : ℕ) (bytes : List ℕ) (at : ℕ) → Bytes bytes → at + k ≤ length bytes → itemBytes k (item k bytes at) ≡ take k (drop at bytes)
 unfolding itemBytes item
 item-bytes-back zero bytes at b h = refl
 item-bytes-back (suc k) bytes at b h =
-    let x = getD bytes at 0 in
+    let x = get_or bytes at 0 in
     let r = item k bytes (suc at) in
     let low : (x + 256 * r) % 256 ≡ x = omega (arith, b at) in
     let high : (x + 256 * r) / 256 ≡ r = omega (arith, b at) in
     rw (low, high, item-bytes-back k bytes (suc at) b (omega arith), drop-cons bytes at 0 (omega arith))
 
 -- The bytes of the first n items are the first k n bytes.
-pub bytes-items : (k : ℕ) (bytes : List ℕ) (n : ℕ) → Bytes bytes → k * n ≤ length bytes → bytesOf k (itemsTo k bytes n) ≡ take (k * n) bytes
-unfolding itemsTo bytesOf
+pub bytes-items : (k : ℕ) (bytes : List ℕ) (n : ℕ) → Bytes bytes → k * n ≤ length bytes → bytes_of k (itemsTo k bytes n) ≡ take (k * n) bytes
+unfolding itemsTo bytes_of
 bytes-items k bytes zero b h = rw mul-zero
 bytes-items k bytes (suc n) b h =
     let m : k * suc n ≡ k * n + k = mul-suc k n in
     bytes-append k (itemsTo k bytes n) (item k bytes (k * n) ∷ [])
-    ∙ rw (bytes-items k bytes n b (omega arith), bytes-one k (item k bytes (k * n)), item-bytes-back k bytes (k * n) b (omega arith), m) (sym (take-add (k * n) k bytes))
+    ∙ rw (bytes-items k bytes n b (omega arith), bytes_one k (item k bytes (k * n)), item-bytes-back k bytes (k * n) b (omega arith), m) (sym (take-add (k * n) k bytes))
 
 -- The first i items written to the front of a byte string: their bytes, and the rest as it was.
 abbrev pub written : ℕ → List ℕ → ℕ → List ℕ → List ℕ
-written k items i bytes = bytesOf k (take i items) ++ drop (k * i) bytes
+written k items i bytes = bytes_of k (take i items) ++ drop (k * i) bytes
 
 -- The first i items read to the front of a list.
 abbrev readTo : ℕ → List ℕ → ℕ → List ℕ → List ℕ
 readTo k bytes i items = itemsTo k bytes i ++ drop i items
 
 module _ (k : ℕ) (items bytes : List ℕ) where
-  length-front : (i : ℕ) → i ≤ length items → length (bytesOf k (take i items)) ≡ k * i
-  length-front i h = length-bytes k (take i items) ∙ ap (λ (n : ℕ). k * n) (length-take-le i items h)
+  length_front : (i : ℕ) → i ≤ length items → length (bytes_of k (take i items)) ≡ k * i
+  length_front i h = length-bytes k (take i items) ∙ ap (λ (n : ℕ). k * n) (length-take-le i items h)
 
   length-written : (i : ℕ) → i ≤ length items → k * i ≤ length bytes → length (written k items i bytes) ≡ length bytes
   length-written i h f =
-      length-append (bytesOf k (take i items)) (drop (k * i) bytes) ∙ omega (arith, length-front i h, length-drop (k * i) bytes)
+      length-append (bytes_of k (take i items)) (drop (k * i) bytes) ∙ omega (arith, length_front i h, length-drop (k * i) bytes)
 
   -- One item more is written.
-  write-more : (i : ℕ) → i < length items → k * suc i ≤ length bytes → setItem k (written k items i bytes) (k * i) (getD items i 0) ≡ written k items (suc i) bytes
+  write-more : (i : ℕ) → i < length items → k * suc i ≤ length bytes → setItem k (written k items i bytes) (k * i) (get_or items i 0) ≡ written k items (suc i) bytes
   write-more i h f =
-      let p = bytesOf k (take i items) in
+      let p = bytes_of k (take i items) in
       let m : k * suc i ≡ k * i + k = mul-suc k i in
-      let l : length p ≡ k * i = length-front i (omega arith) in
+      let l : length p ≡ k * i = length_front i (omega arith) in
       let d : drop (k * i + k) (p ++ drop (k * i) bytes) ≡ drop (k * i + k) bytes =
       ap (λ (n : ℕ). drop (n + k) (p ++ drop (k * i) bytes)) (sym l) ∙ drop-append-add p (drop (k * i) bytes) k ∙ drop-drop k (k * i) bytes in
-      let t : bytesOf k (take (suc i) items) ≡ p ++ itemBytes k (getD items i 0) =
-      ap (bytesOf k) (take-suc items i 0 h) ∙ bytes-append k (take i items) (getD items i 0 ∷ []) ∙ ap (λ (r : List ℕ). p ++ r) (bytes-one k (getD items i 0)) in
-      put-spells k (p ++ drop (k * i) bytes) (k * i) (getD items i 0) (omega (arith, length-written i (omega arith) (omega arith)))
-      ∙ rw (take-at p (drop (k * i) bytes) (k * i) l, d, t, m) (sym (append-assoc p (itemBytes k (getD items i 0)) (drop (k * i + k) bytes)))
+      let t : bytes_of k (take (suc i) items) ≡ p ++ itemBytes k (get_or items i 0) =
+      ap (bytes_of k) (take-suc items i 0 h) ∙ bytes-append k (take i items) (get_or items i 0 ∷ []) ∙ ap (λ (r : List ℕ). p ++ r) (bytes_one k (get_or items i 0)) in
+      put-spells k (p ++ drop (k * i) bytes) (k * i) (get_or items i 0) (omega (arith, length-written i (omega arith) (omega arith)))
+      ∙ rw (take_at p (drop (k * i) bytes) (k * i) l, d, t, m) (sym (append_assoc p (itemBytes k (get_or items i 0)) (drop (k * i + k) bytes)))
 
   -- One item more is read.
-  read-more : (i : ℕ) → i < length items → set (readTo k bytes i items) i (item k bytes (k * i)) ≡ readTo k bytes (suc i) items
+  read_more : (i : ℕ) → i < length items → set (readTo k bytes i items) i (item k bytes (k * i)) ≡ readTo k bytes (suc i) items
   unfolding itemsTo
-  read-more i h =
+  read_more i h =
       rw (drop-cons items i 0 h)
-      (set-at (itemsTo k bytes i) (getD items i 0) (drop (suc i) items) (item k bytes (k * i)) i (length-items k bytes i)
-      ∙ sym (append-snoc (itemsTo k bytes i) (item k bytes (k * i)) (drop (suc i) items)))
+      (set_at (itemsTo k bytes i) (get_or items i 0) (drop (suc i) items) (item k bytes (k * i)) i (length-items k bytes i)
+      ∙ sym (append_snoc (itemsTo k bytes i) (item k bytes (k * i)) (drop (suc i) items)))
 
 -- The bytes of the items from the c-th on are the bytes from the (k c)-th on.
-pub bytes-rest : (k : ℕ) (bytes : List ℕ) (n c : ℕ) → Bytes bytes → length bytes ≡ k * n → c ≤ n → bytesOf k (drop c (itemsTo k bytes n)) ≡ drop (k * c) bytes
-bytes-rest k bytes n c b e h =
+pub bytes_rest : (k : ℕ) (bytes : List ℕ) (n c : ℕ) → Bytes bytes → length bytes ≡ k * n → c ≤ n → bytes_of k (drop c (itemsTo k bytes n)) ≡ drop (k * c) bytes
+bytes_rest k bytes n c b e h =
     let all = itemsTo k bytes n in
-    let low : k * c ≤ k * n = mul-le-mul-left k h in
-    let whole : bytesOf k all ≡ bytes = bytes-items k bytes n b (omega arith) ∙ take-all (k * n) bytes (omega arith) in
-    let front : bytesOf k (take c all) ≡ take (k * c) bytes = ap (bytesOf k) (take-items k bytes c n h) ∙ bytes-items k bytes c b (omega arith) in
-    let parts : bytes ≡ take (k * c) bytes ++ bytesOf k (drop c all) =
-    sym whole ∙ ap (bytesOf k) (sym (take-append-drop c all)) ∙ bytes-append k (take c all) (drop c all) ∙ ap (λ (r : List ℕ). r ++ bytesOf k (drop c all)) front in
-    sym (ap (drop (k * c)) parts ∙ drop-at (take (k * c) bytes) (bytesOf k (drop c all)) (k * c) (length-take-le (k * c) bytes (omega arith)))
+    let low : k * c ≤ k * n = mul-le-mul_left k h in
+    let whole : bytes_of k all ≡ bytes = bytes-items k bytes n b (omega arith) ∙ take_all (k * n) bytes (omega arith) in
+    let front : bytes_of k (take c all) ≡ take (k * c) bytes = ap (bytes_of k) (take-items k bytes c n h) ∙ bytes-items k bytes c b (omega arith) in
+    let parts : bytes ≡ take (k * c) bytes ++ bytes_of k (drop c all) =
+    sym whole ∙ ap (bytes_of k) (sym (take-append-drop c all)) ∙ bytes-append k (take c all) (drop c all) ∙ ap (λ (r : List ℕ). r ++ bytes_of k (drop c all)) front in
+    sym (ap (drop (k * c)) parts ∙ drop_at (take (k * c) bytes) (bytes_of k (drop c all)) (k * c) (length-take-le (k * c) bytes (omega arith)))
 
 -- Whole items give their bytes back.
-pub bytes-back : (k : ℕ) (bytes : List ℕ) (n : ℕ) → Bytes bytes → length bytes ≡ k * n → bytesOf k (itemsTo k bytes n) ≡ bytes
-bytes-back k bytes n b e = bytes-items k bytes n b (omega arith) ∙ take-all (k * n) bytes (omega arith)
+pub bytes_back : (k : ℕ) (bytes : List ℕ) (n : ℕ) → Bytes bytes → length bytes ≡ k * n → bytes_of k (itemsTo k bytes n) ≡ bytes
+bytes_back k bytes n b e = bytes-items k bytes n b (omega arith) ∙ take_all (k * n) bytes (omega arith)
 
 -- An item further on in a string.
 item-shift : (k : ℕ) (p q : List ℕ) (at : ℕ) → item k (p ++ q) (length p + at) ≡ item k q at
@@ -148,7 +148,7 @@ unfolding item
 item-shift zero p q at = refl
 item-shift (suc k) p q at =
     let e : suc (length p + at) ≡ length p + suc at = omega arith in
-    rw (getD-append-add p q at 0, e, item-shift k p q (suc at))
+    rw (get_or-append-add p q at 0, e, item-shift k p q (suc at))
 
 item-spelled : (k v : ℕ) (rest : List ℕ) → v < 256 ^ k → item k (itemBytes k v ++ rest) 0 ≡ v
 unfolding item itemBytes
@@ -159,26 +159,26 @@ item-spelled (suc k) v rest h =
 
 -- Every element is below a limit.
 abbrev pub Below : ℕ → List ℕ → Type 0
-Below limit xs = (i : ℕ) → i < length xs → getD xs i 0 < limit
+Below limit xs = (i : ℕ) → i < length xs → get_or xs i 0 < limit
 
-item-of-bytes : (k : ℕ) (xs : List ℕ) (i : ℕ) → Below (256 ^ k) xs → i < length xs → item k (bytesOf k xs) (k * i) ≡ getD xs i 0
-unfolding bytesOf
-item-of-bytes k (x ∷ xs) zero b h = rw mul-zero (item-spelled k x (bytesOf k xs) (b 0 h))
+item-of-bytes : (k : ℕ) (xs : List ℕ) (i : ℕ) → Below (256 ^ k) xs → i < length xs → item k (bytes_of k xs) (k * i) ≡ get_or xs i 0
+unfolding bytes_of
+item-of-bytes k (x ∷ xs) zero b h = rw mul-zero (item-spelled k x (bytes_of k xs) (b 0 h))
 item-of-bytes k (x ∷ xs) (suc i) b h =
     let e : k * suc i ≡ length (itemBytes k x) + k * i = omega (arith, mul-suc k i, length-itemBytes k x) in
-    rw (e, item-shift k (itemBytes k x) (bytesOf k xs) (k * i)) (item-of-bytes k xs i (λ j l. b (suc j) (omega arith)) (omega arith))
+    rw (e, item-shift k (itemBytes k x) (bytes_of k xs) (k * i)) (item-of-bytes k xs i (λ j l. b (suc j) (omega arith)) (omega arith))
 
-getD-items : (k : ℕ) (bytes : List ℕ) (n i : ℕ) → i < n → getD (itemsTo k bytes n) i 0 ≡ item k bytes (k * i)
+getD-items : (k : ℕ) (bytes : List ℕ) (n i : ℕ) → i < n → get_or (itemsTo k bytes n) i 0 ≡ item k bytes (k * i)
 unfolding itemsTo
 getD-items k bytes n i h =
-    ap (λ (xs : List ℕ). getD xs i 0) (sym (take-append-drop (suc i) (itemsTo k bytes n)) ∙ ap (λ (r : List ℕ). r ++ drop (suc i) (itemsTo k bytes n)) (take-items k bytes (suc i) n h) ∙ append-assoc (itemsTo k bytes i) (item k bytes (k * i) ∷ []) (drop (suc i) (itemsTo k bytes n)))
-    ∙ getD-at (itemsTo k bytes i) (item k bytes (k * i)) (drop (suc i) (itemsTo k bytes n)) 0 i (length-items k bytes i)
+    ap (λ (xs : List ℕ). get_or xs i 0) (sym (take-append-drop (suc i) (itemsTo k bytes n)) ∙ ap (λ (r : List ℕ). r ++ drop (suc i) (itemsTo k bytes n)) (take-items k bytes (suc i) n h) ∙ append_assoc (itemsTo k bytes i) (item k bytes (k * i) ∷ []) (drop (suc i) (itemsTo k bytes n)))
+    ∙ get_or_at (itemsTo k bytes i) (item k bytes (k * i)) (drop (suc i) (itemsTo k bytes n)) 0 i (length-items k bytes i)
 
 -- Items that fit are got back from their bytes.
-pub items-back : (k : ℕ) (xs : List ℕ) → Below (256 ^ k) xs → itemsTo k (bytesOf k xs) (length xs) ≡ xs
-items-back k xs b =
-    ext-getD 0 (itemsTo k (bytesOf k xs) (length xs)) xs (length-items k (bytesOf k xs) (length xs))
-    (λ i h. let l : i < length xs = omega (arith, length-items k (bytesOf k xs) (length xs)) in getD-items k (bytesOf k xs) (length xs) i l ∙ item-of-bytes k xs i b l)
+pub items_back : (k : ℕ) (xs : List ℕ) → Below (256 ^ k) xs → itemsTo k (bytes_of k xs) (length xs) ≡ xs
+items_back k xs b =
+    ext_get_or 0 (itemsTo k (bytes_of k xs) (length xs)) xs (length-items k (bytes_of k xs) (length xs))
+    (λ i h. let l : i < length xs = omega (arith, length-items k (bytes_of k xs) (length xs)) in getD-items k (bytes_of k xs) (length xs) i l ∙ item-of-bytes k xs i b l)
 
 -- Items of bytes fit.
 pub items-low : (k : ℕ) (bytes : List ℕ) (n : ℕ) → Bytes bytes → Below (256 ^ k) (itemsTo k bytes n)
@@ -193,28 +193,28 @@ pub record ReadTo (k : ℕ) (bytes items₀ items : List ℕ) (i at : ℕ) : Typ
   pub is : items ≡ readTo k bytes i items₀
 
 -- The bytes of the items from the i-th on.
-rest-bytes : (k : ℕ) (xs : List ℕ) (i : ℕ) → i ≤ length xs → drop (k * i) (bytesOf k xs) ≡ bytesOf k (drop i xs)
+rest-bytes : (k : ℕ) (xs : List ℕ) (i : ℕ) → i ≤ length xs → drop (k * i) (bytes_of k xs) ≡ bytes_of k (drop i xs)
 rest-bytes k xs i h =
-    ap (λ (ys : List ℕ). drop (k * i) (bytesOf k ys)) (sym (take-append-drop i xs))
+    ap (λ (ys : List ℕ). drop (k * i) (bytes_of k ys)) (sym (take-append-drop i xs))
     ∙ ap (drop (k * i)) (bytes-append k (take i xs) (drop i xs))
-    ∙ drop-at (bytesOf k (take i xs)) (bytesOf k (drop i xs)) (k * i) (length-bytes k (take i xs) ∙ ap (λ (n : ℕ). k * n) (length-take-le i xs h))
+    ∙ drop_at (bytes_of k (take i xs)) (bytes_of k (drop i xs)) (k * i) (length-bytes k (take i xs) ∙ ap (λ (n : ℕ). k * n) (length-take-le i xs h))
 
 -- An item put among others.
-pub set-item : (k : ℕ) (xs : List ℕ) (i v : ℕ) → i < length xs → setItem k (bytesOf k xs) (k * i) v ≡ bytesOf k (set xs i v)
+pub set-item : (k : ℕ) (xs : List ℕ) (i v : ℕ) → i < length xs → setItem k (bytes_of k xs) (k * i) v ≡ bytes_of k (set xs i v)
 set-item k xs i v h =
     let ys = set xs i v in
-    let b = bytesOf k xs in
+    let b = bytes_of k xs in
     let long : length ys ≡ length xs = length-set xs i v in
     let whole : length b ≡ k * length xs = length-bytes k xs in
     let start : written k ys i b ≡ b =
-    ap (λ (r : List ℕ). bytesOf k r ++ drop (k * i) b) (take-set-le i xs i v (omega arith))
-    ∙ ap (λ (r : List ℕ). bytesOf k (take i xs) ++ r) (rest-bytes k xs i (omega arith))
-    ∙ sym (bytes-append k (take i xs) (drop i xs)) ∙ ap (bytesOf k) (take-append-drop i xs) in
-    let end : written k ys (suc i) b ≡ bytesOf k ys =
-    ap (λ (r : List ℕ). bytesOf k (take (suc i) ys) ++ r) (rest-bytes k xs (suc i) h ∙ ap (bytesOf k) (sym (drop-set-lt (suc i) xs i v (omega arith))))
-    ∙ sym (bytes-append k (take (suc i) ys) (drop (suc i) ys)) ∙ ap (bytesOf k) (take-append-drop (suc i) ys) in
-    (λ j. setItem k (sym start j) (k * i) (sym (getD-set-same xs i v 0 h) j))
-    ∙ write-more k ys b i (omega arith) (omega (arith, whole, mul-le-mul-left {m = suc i} {n = length xs} k h))
+    ap (λ (r : List ℕ). bytes_of k r ++ drop (k * i) b) (take-set-le i xs i v (omega arith))
+    ∙ ap (λ (r : List ℕ). bytes_of k (take i xs) ++ r) (rest-bytes k xs i (omega arith))
+    ∙ sym (bytes-append k (take i xs) (drop i xs)) ∙ ap (bytes_of k) (take-append-drop i xs) in
+    let end : written k ys (suc i) b ≡ bytes_of k ys =
+    ap (λ (r : List ℕ). bytes_of k (take (suc i) ys) ++ r) (rest-bytes k xs (suc i) h ∙ ap (bytes_of k) (sym (drop-set-lt (suc i) xs i v (omega arith))))
+    ∙ sym (bytes-append k (take (suc i) ys) (drop (suc i) ys)) ∙ ap (bytes_of k) (take-append-drop (suc i) ys) in
+    (λ j. setItem k (sym start j) (k * i) (sym (get_or-set_same xs i v 0 h) j))
+    ∙ write-more k ys b i (omega arith) (omega (arith, whole, mul-le-mul_left {m = suc i} {n = length xs} k h))
     ∙ end
 
 -- What a loop has written after i items, at the place `at`.
@@ -225,8 +225,8 @@ pub record WrittenTo (k : ℕ) (items bytes₀ bytes : List ℕ) (i at : ℕ) : 
   pub is : bytes ≡ written k items i bytes₀
 
 -- One item more lies within the string.
-pub one-more : (k i n m : ℕ) → i < n → k * n ≤ m → k * i + k ≤ m
-one-more k i n m h f = omega (arith, mul-suc k i, mul-le-mul-left {m = suc i} {n = n} k h)
+pub one_more : (k i n m : ℕ) → i < n → k * n ≤ m → k * i + k ≤ m
+one_more k i n m h f = omega (arith, mul-suc k i, mul-le-mul_left {m = suc i} {n = n} k h)
 
 module _ (k : ℕ) (bytes items₀ : List ℕ) where
   pub read-start : ReadTo k bytes items₀ items₀ 0 0
@@ -234,49 +234,49 @@ module _ (k : ℕ) (bytes items₀ : List ℕ) where
   read-start = record { within = omega arith; long = refl; place = sym (mul-zero k); is = refl }
 
   module _ (items : List ℕ) (i at : ℕ) (r : ReadTo k bytes items₀ items i at) where
-    pub read-step : i < length items₀ → (v : ℕ) → v ≡ item k bytes at → ReadTo k bytes items₀ (set items i v) (suc i) (at + k)
-    read-step h v e =
+    pub read_step : i < length items₀ → (v : ℕ) → v ≡ item k bytes at → ReadTo k bytes items₀ (set items i v) (suc i) (at + k)
+    read_step h v e =
         record {
           within = h;
-          long = length-set items i v ∙ r .long;
-          place = omega (arith, r .place, mul-suc k i);
-          is = ap (λ (x : ℕ). set items i x) (e ∙ ap (item k bytes) (r .place)) ∙ ap (λ (x : List ℕ). set x i (item k bytes (k * i))) (r .is) ∙ read-more k items₀ bytes i h;
+          long = length-set items i v ∙ r.long;
+          place = omega (arith, r.place, mul-suc k i);
+          is = ap (λ (x : ℕ). set items i x) (e ∙ ap (item k bytes) r.place) ∙ ap (λ (x : List ℕ). set x i (item k bytes (k * i))) r.is ∙ read_more k items₀ bytes i h;
         }
 
     pub read-end : length items₀ ≤ i → items ≡ itemsTo k bytes (length items₀)
     read-end h =
-        let e : i ≡ length items₀ = omega (arith, r .within) in
-        r .is ∙ rw (drop-of-length-le items₀ {i = i} h) (append-nil (itemsTo k bytes i) ∙ ap (itemsTo k bytes) e)
+        let e : i ≡ length items₀ = omega (arith, r.within) in
+        r.is ∙ rw (drop_of_length-le items₀ {i = i} h) (append-nil (itemsTo k bytes i) ∙ ap (itemsTo k bytes) e)
 
 module _ (k : ℕ) (items bytes₀ : List ℕ) (f : k * length items ≤ length bytes₀) where
   pub write-start : WrittenTo k items bytes₀ bytes₀ 0 0
-  unfolding bytesOf
+  unfolding bytes_of
   write-start = record { within = omega arith; long = refl; place = sym (mul-zero k); is = rw mul-zero }
 
   module _ (bytes : List ℕ) (i at : ℕ) (r : WrittenTo k items bytes₀ bytes i at) where
-    pub write-step : i < length items → WrittenTo k items bytes₀ (setItem k bytes at (getD items i 0)) (suc i) (at + k)
-    write-step h =
+    pub write_step : i < length items → WrittenTo k items bytes₀ (setItem k bytes at (get_or items i 0)) (suc i) (at + k)
+    write_step h =
         record {
           within = h;
-          long = length-setItem k bytes at (getD items i 0) ∙ r .long;
-          place = omega (arith, r .place, mul-suc k i);
-          is = ap (λ (x : ℕ). setItem k bytes x (getD items i 0)) (r .place) ∙ ap (λ (x : List ℕ). setItem k x (k * i) (getD items i 0)) (r .is) ∙ write-more k items bytes₀ i h (omega (arith, mul-le-mul-left {m = suc i} {n = length items} k h));
+          long = length-setItem k bytes at (get_or items i 0) ∙ r.long;
+          place = omega (arith, r.place, mul-suc k i);
+          is = ap (λ (x : ℕ). setItem k bytes x (get_or items i 0)) r.place ∙ ap (λ (x : List ℕ). setItem k x (k * i) (get_or items i 0)) r.is ∙ write-more k items bytes₀ i h (omega (arith, mul-le-mul_left {m = suc i} {n = length items} k h));
         }
 
-    pub write-end : length items ≤ i → bytes ≡ bytesOf k items ++ drop (k * length items) bytes₀
+    pub write-end : length items ≤ i → bytes ≡ bytes_of k items ++ drop (k * length items) bytes₀
     write-end h =
-        let e : i ≡ length items = omega (arith, r .within) in
-        r .is ∙ rw (e, take-length items)
+        let e : i ≡ length items = omega (arith, r.within) in
+        r.is ∙ rw (e, take-length items)
 
 -- Signed items read to the front of a list.
 pub record SignedTo (bytes : List ℕ) (items₀ items : List ℤ) (i : ℕ) : Type 0 where
   pub within : i ≤ length items₀
   pub long : length items ≡ length items₀
-  pub is : items ≡ map signedOf (itemsTo 2 bytes i) ++ drop i items₀
+  pub is : items ≡ map signed_of (itemsTo 2 bytes i) ++ drop i items₀
 
-map-snoc : (f : ℕ → ℤ) (xs : List ℕ) (x : ℕ) → map f (xs ++ (x ∷ [])) ≡ map f xs ++ (f x ∷ [])
-map-snoc f [] x = refl
-map-snoc f (y ∷ xs) x = ap (λ (r : List ℤ). f y ∷ r) (map-snoc f xs x)
+map_snoc : (f : ℕ → ℤ) (xs : List ℕ) (x : ℕ) → map f (xs ++ (x ∷ [])) ≡ map f xs ++ (f x ∷ [])
+map_snoc f [] x = refl
+map_snoc f (y ∷ xs) x = ap (λ (r : List ℤ). f y ∷ r) (map_snoc f xs x)
 
 module _ (bytes : List ℕ) (items₀ : List ℤ) where
   pub signed-start : SignedTo bytes items₀ items₀ 0
@@ -284,25 +284,25 @@ module _ (bytes : List ℕ) (items₀ : List ℤ) where
   signed-start = record { within = omega arith; long = refl; is = refl }
 
   module _ (items : List ℤ) (i : ℕ) (r : SignedTo bytes items₀ items i) where
-    length-signed : length (map signedOf (itemsTo 2 bytes i)) ≡ i
-    length-signed = length-map (itemsTo 2 bytes i) signedOf ∙ length-items 2 bytes i
+    length-signed : length (map signed_of (itemsTo 2 bytes i)) ≡ i
+    length-signed = length-map (itemsTo 2 bytes i) signed_of ∙ length-items 2 bytes i
 
-    pub signed-step : i < length items₀ → (v : ℤ) → v ≡ signedOf (item 2 bytes (2 * i)) → SignedTo bytes items₀ (set items i v) (suc i)
+    pub signed-step : i < length items₀ → (v : ℤ) → v ≡ signed_of (item 2 bytes (2 * i)) → SignedTo bytes items₀ (set items i v) (suc i)
     unfolding itemsTo
     signed-step h v e =
-        let m = map signedOf (itemsTo 2 bytes i) in
+        let m = map signed_of (itemsTo 2 bytes i) in
         record {
           within = h;
-          long = length-set items i v ∙ r .long;
-          is = ap (λ (x : List ℤ). set x i v) (r .is ∙ ap (λ (x : List ℤ). m ++ x) (drop-cons items₀ i (pos 0) h)) ∙ set-at m (getD items₀ i (pos 0)) (drop (suc i) items₀) v i length-signed ∙ sym (append-snoc m v (drop (suc i) items₀)) ∙ ap (λ (x : List ℤ). x ++ drop (suc i) items₀) (ap (λ (z : ℤ). m ++ (z ∷ [])) e ∙ sym (map-snoc signedOf (itemsTo 2 bytes i) (item 2 bytes (2 * i))));
+          long = length-set items i v ∙ r.long;
+          is = ap (λ (x : List ℤ). set x i v) (r.is ∙ ap (λ (x : List ℤ). m ++ x) (drop-cons items₀ i (pos 0) h)) ∙ set_at m (get_or items₀ i (pos 0)) (drop (suc i) items₀) v i length-signed ∙ sym (append_snoc m v (drop (suc i) items₀)) ∙ ap (λ (x : List ℤ). x ++ drop (suc i) items₀) (ap (λ (z : ℤ). m ++ (z ∷ [])) e ∙ sym (map_snoc signed_of (itemsTo 2 bytes i) (item 2 bytes (2 * i))));
         }
 
-    pub signed-end : length items₀ ≤ i → items ≡ map signedOf (itemsTo 2 bytes (length items₀))
+    pub signed-end : length items₀ ≤ i → items ≡ map signed_of (itemsTo 2 bytes (length items₀))
     signed-end h =
-        let e : i ≡ length items₀ = omega (arith, r .within) in
-        r .is ∙ rw (drop-of-length-le items₀ {i = i} h) (append-nil (map signedOf (itemsTo 2 bytes i)) ∙ ap (λ (n : ℕ). map signedOf (itemsTo 2 bytes n)) e)
+        let e : i ≡ length items₀ = omega (arith, r.within) in
+        r.is ∙ rw (drop_of_length-le items₀ {i = i} h) (append-nil (map signed_of (itemsTo 2 bytes i)) ∙ ap (λ (n : ℕ). map signed_of (itemsTo 2 bytes n)) e)
 
 -- The bits of the i-th of signed items.
-pub unsigned-at : (items : List ℤ) (i : ℕ) → getD (map unsignedOf items) i 0 ≡ unsignedOf (getD items i (pos 0))
+pub unsigned-at : (items : List ℤ) (i : ℕ) → get_or (map unsignedOf items) i 0 ≡ unsignedOf (get_or items i (pos 0))
 unfolding unsignedOf
-unsigned-at items i = List·getD-map unsignedOf items i (pos 0)
+unsigned-at items i = get_or-map unsignedOf items i (pos 0)

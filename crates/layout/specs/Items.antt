@@ -1,16 +1,11 @@
 -- Byte strings as lists of items of k bytes each, low byte first: which items a string has, and which bytes a list of items takes.
 -- A sample or a level is an item of two bytes in two's complement.
-use mathlib.Core.Bool.{Bool, cond}
-use mathlib.Core.List.{List, [], _∷_, _++_}
-use Prim.Native.Nat.{ℕ, zero, suc, _*_, _-_, _/_, _%_, _<_}
-use lib.Dec.{eqb, ltb}
-use lib.IntN.{ℤ, pos, negsuc}
-use lib.ListN.{length, getD}
-use Rattle·layout·specs.specs.Item.{item}
+use Rattle.std.specs.Prelude.{Bool, cond, List, [], ◌∷◌, ◌++◌, ℕ, zero, suc, ◌*◌, ◌-◌, ◌/◌, ◌%◌, ◌<◌, eqb, ltb, ℤ, pos, negsuc, length, get_or}
+use Rattle.layout.specs.Item.{item}
 
 -- Every element of a list is a byte, as in every string of bytes.
 abbrev pub Bytes : List ℕ → Type 0
-Bytes bytes = (i : ℕ) → getD bytes i 0 < 256
+Bytes bytes = (i : ℕ) → get_or bytes i 0 < 256
 
 -- The first n items of a byte string.
 unfoldable pub itemsTo : ℕ → List ℕ → ℕ → List ℕ
@@ -18,8 +13,8 @@ itemsTo k bytes zero = []
 itemsTo k bytes (suc n) = itemsTo k bytes n ++ (item k bytes (k * n) ∷ [])
 
 -- All items of a byte string.
-abbrev pub itemsOf : ℕ → List ℕ → List ℕ
-itemsOf k bytes = itemsTo k bytes (length bytes / k)
+abbrev pub items_of : ℕ → List ℕ → List ℕ
+items_of k bytes = itemsTo k bytes (length bytes / k)
 
 -- A byte string consists of whole items.
 abbrev pub wholeItems : ℕ → List ℕ → Bool
@@ -31,13 +26,13 @@ itemBytes zero v = []
 itemBytes (suc k) v = v % 256 ∷ itemBytes k (v / 256)
 
 -- The bytes of a list of items.
-unfoldable pub bytesOf : ℕ → List ℕ → List ℕ
-bytesOf k [] = []
-bytesOf k (v ∷ vs) = itemBytes k v ++ bytesOf k vs
+unfoldable pub bytes_of : ℕ → List ℕ → List ℕ
+bytes_of k [] = []
+bytes_of k (v ∷ vs) = itemBytes k v ++ bytes_of k vs
 
 -- The whole number that an item of two bytes stands for in two's complement.
-unfoldable pub signedOf : ℕ → ℤ
-signedOf v = cond (ltb v 32768) (pos v) (negsuc (65535 - v))
+unfoldable pub signed_of : ℕ → ℤ
+signed_of v = cond (ltb v 32768) (pos v) (negsuc (65535 - v))
 
 -- The item of two bytes that stands for a whole number in two's complement.
 unfoldable pub unsignedOf : ℤ → ℕ

@@ -1,24 +1,21 @@
 // Numbers as items of a byte string, low byte first: one item got or put, and the front of a string read to a list of numbers or
 // written from one. The table of starts in the scratch and the lists of the calls in C are made of such items.
-ghost use mathlib.Core.Path.{_≡_};
-ghost use mathlib.Core.List.{map, _++_};
-ghost use Prim.Native.Nat.{_+_, _*_, _≤_, _<_};
-ghost use lib.ListN.{length, getD, drop};
-ghost use Rattle·layout·specs.specs.Item.{item, setItem};
-ghost use Rattle·layout·specs.specs.Items.{itemsTo, itemsOf, bytesOf, signedOf, unsignedOf};
+ghost use Rattle.std.specs.Prelude.{◌≡◌, map, ◌++◌, ◌+◌, ◌*◌, ◌≤◌, ◌<◌, length, get_or, drop};
+ghost use Rattle.layout.specs.Item.{item, setItem};
+ghost use Rattle.layout.specs.Items.{itemsTo, items_of, bytes_of, signed_of, unsignedOf};
 
 // The two-byte item that starts at the byte `at`.
 pub fn get_u16(bytes: &[u8], at: usize) -> u16
-    requires { ⌜ at + 2 ≤ length (now bytes) ⌝ }
-    ensures { λ r. ⌜ r ≡ item 2 (now (bytes .entry)) at ⌝ }
+    requires { at + 2 ≤ length bytes.now }
+    ensures { result ≡ item 2 bytes.now at }
 {
     bytes[at] as u16 + 256 * (bytes[at + 1] as u16)
 }
 
 // Puts `value` as the two-byte item that starts at the byte `at`.
 pub fn put_u16(bytes: &mut [u8], at: usize, value: u16)
-    requires { ⌜ at + 2 ≤ length (now bytes) ⌝ }
-    ensures { λ r. ⌜ now (bytes .exit) ≡ setItem 2 (now (bytes .entry)) at value ⌝ }
+    requires { at + 2 ≤ length bytes.old }
+    ensures { bytes.new ≡ setItem 2 bytes.old at value }
 {
     bytes[at] = (value % 256) as u8;
     bytes[at + 1] = (value / 256) as u8;
@@ -26,8 +23,8 @@ pub fn put_u16(bytes: &mut [u8], at: usize, value: u16)
 
 // The eight-byte item that starts at the byte `at`: four of two bytes.
 pub fn get_u64(bytes: &[u8], at: usize) -> u64
-    requires { ⌜ at + 8 ≤ length (now bytes) ⌝ }
-    ensures { λ r. ⌜ r ≡ item 8 (now (bytes .entry)) at ⌝ }
+    requires { at + 8 ≤ length bytes.now }
+    ensures { result ≡ item 8 bytes.now at }
 {
     let first = get_u16(bytes, at) as u64;
     let second = get_u16(bytes, at + 2) as u64;
@@ -38,8 +35,8 @@ pub fn get_u64(bytes: &[u8], at: usize) -> u64
 
 // The item of `width` bytes that starts at the byte `at`.
 pub fn get(bytes: &[u8], at: usize, width: usize) -> u64
-    requires { ⌜ (width ≤ 8) × (at + width ≤ length (now bytes)) ⌝ }
-    ensures { λ r. ⌜ r ≡ item width (now (bytes .entry)) at ⌝ }
+    requires { (width ≤ 8) × (at + width ≤ length bytes.now) }
+    ensures { result ≡ item width bytes.now at }
 {
     let mut i = width;
     let mut value: u64 = 0;
@@ -52,8 +49,8 @@ pub fn get(bytes: &[u8], at: usize, width: usize) -> u64
 
 // Puts `value` as the item of `width` bytes that starts at the byte `at`.
 pub fn put(bytes: &mut [u8], at: usize, width: usize, value: u64)
-    requires { ⌜ at + width ≤ length (now bytes) ⌝ }
-    ensures { λ r. ⌜ now (bytes .exit) ≡ setItem width (now (bytes .entry)) at value ⌝ }
+    requires { at + width ≤ length bytes.old }
+    ensures { bytes.new ≡ setItem width bytes.old at value }
 {
     let mut i = 0;
     let mut rest = value;
@@ -66,24 +63,24 @@ pub fn put(bytes: &mut [u8], at: usize, width: usize, value: u64)
 
 // The item of two bytes at place i.
 pub fn item_u16(bytes: &[u8], i: usize) -> u64
-    requires { ⌜ i < length (itemsOf 2 (now bytes)) ⌝ }
-    ensures { λ r. ⌜ r ≡ getD (itemsOf 2 (now (bytes .entry))) i 0 ⌝ }
+    requires { i < length (items_of 2 bytes.now) }
+    ensures { result ≡ get_or (items_of 2 bytes.now) i 0 }
 {
     get_u16(bytes, 2 * i) as u64
 }
 
 // The item of eight bytes at place i.
 pub fn item_u64(bytes: &[u8], i: usize) -> u64
-    requires { ⌜ i < length (itemsOf 8 (now bytes)) ⌝ }
-    ensures { λ r. ⌜ r ≡ getD (itemsOf 8 (now (bytes .entry))) i 0 ⌝ }
+    requires { i < length (items_of 8 bytes.now) }
+    ensures { result ≡ get_or (items_of 8 bytes.now) i 0 }
 {
     get_u64(bytes, 8 * i)
 }
 
 // Reads as many items of `width` bytes as the list has places.
 pub fn read_items(bytes: &[u8], width: usize, items: &mut [u64])
-    requires { ⌜ (width ≤ 8) × (width * length (now items) ≤ length (now bytes)) ⌝ }
-    ensures { λ r. ⌜ now (items .exit) ≡ itemsTo width (now (bytes .entry)) (length (now (items .entry))) ⌝ }
+    requires { (width ≤ 8) × (width * length items.old ≤ length bytes.now) }
+    ensures { items.new ≡ itemsTo width bytes.now (length items.old) }
 {
     let mut i = 0;
     let mut at = 0;
@@ -96,9 +93,9 @@ pub fn read_items(bytes: &[u8], width: usize, items: &mut [u64])
 
 // Writes a list of items of `width` bytes to the front of a byte string, whose rest stays.
 pub fn write_items(bytes: &mut [u8], width: usize, items: &[u64])
-    requires { ⌜ width * length (now items) ≤ length (now bytes) ⌝ }
-    ensures { λ r. ⌜ now (bytes .exit) ≡ bytesOf width (now (items .entry))
-        ++ drop (width * length (now (items .entry))) (now (bytes .entry)) ⌝ }
+    requires { width * length items.now ≤ length bytes.old }
+    ensures { bytes.new ≡ bytes_of width items.now
+        ++ drop (width * length items.now) bytes.old }
 {
     let mut i = 0;
     let mut at = 0;
@@ -111,8 +108,8 @@ pub fn write_items(bytes: &mut [u8], width: usize, items: &[u64])
 
 // Reads as many items of two bytes as the list has places.
 pub fn read_u16s(bytes: &[u8], items: &mut [u16])
-    requires { ⌜ 2 * length (now items) ≤ length (now bytes) ⌝ }
-    ensures { λ r. ⌜ now (items .exit) ≡ itemsTo 2 (now (bytes .entry)) (length (now (items .entry))) ⌝ }
+    requires { 2 * length items.old ≤ length bytes.now }
+    ensures { items.new ≡ itemsTo 2 bytes.now (length items.old) }
 {
     let mut i = 0;
     while i < items.len() {
@@ -123,9 +120,9 @@ pub fn read_u16s(bytes: &[u8], items: &mut [u16])
 
 // Writes a list of items of two bytes to the front of a byte string, whose rest stays.
 pub fn write_u16s(bytes: &mut [u8], items: &[u16])
-    requires { ⌜ 2 * length (now items) ≤ length (now bytes) ⌝ }
-    ensures { λ r. ⌜ now (bytes .exit) ≡ bytesOf 2 (now (items .entry))
-        ++ drop (2 * length (now (items .entry))) (now (bytes .entry)) ⌝ }
+    requires { 2 * length items.now ≤ length bytes.old }
+    ensures { bytes.new ≡ bytes_of 2 items.now
+        ++ drop (2 * length items.now) bytes.old }
 {
     let mut i = 0;
     while i < items.len() {
@@ -136,7 +133,7 @@ pub fn write_u16s(bytes: &mut [u8], items: &[u16])
 
 // The number that 16 bits stand for in two's complement.
 fn signed(value: u16) -> i16
-    ensures { λ r. ⌜ r ≡ signedOf value ⌝ }
+    ensures { result ≡ signed_of value }
 {
     if value < 32768 {
         return value as i16;
@@ -146,7 +143,7 @@ fn signed(value: u16) -> i16
 
 // The 16 bits that stand for a number in two's complement.
 fn unsigned(value: i16) -> u16
-    ensures { λ r. ⌜ r ≡ unsignedOf value ⌝ }
+    ensures { result ≡ unsignedOf value }
 {
     if 0 <= value {
         return value as u16;
@@ -156,9 +153,9 @@ fn unsigned(value: i16) -> u16
 
 // Reads as many signed items of two bytes as the list has places.
 pub fn read_i16s(bytes: &[u8], items: &mut [i16])
-    requires { ⌜ 2 * length (now items) ≤ length (now bytes) ⌝ }
-    ensures { λ r. ⌜ now (items .exit)
-        ≡ map signedOf (itemsTo 2 (now (bytes .entry)) (length (now (items .entry)))) ⌝ }
+    requires { 2 * length items.old ≤ length bytes.now }
+    ensures { items.new
+        ≡ map signed_of (itemsTo 2 bytes.now (length items.old)) }
 {
     let mut i = 0;
     while i < items.len() {
@@ -169,9 +166,9 @@ pub fn read_i16s(bytes: &[u8], items: &mut [i16])
 
 // Writes a list of signed items of two bytes to the front of a byte string, whose rest stays.
 pub fn write_i16s(bytes: &mut [u8], items: &[i16])
-    requires { ⌜ 2 * length (now items) ≤ length (now bytes) ⌝ }
-    ensures { λ r. ⌜ now (bytes .exit) ≡ bytesOf 2 (map unsignedOf (now (items .entry)))
-        ++ drop (2 * length (now (items .entry))) (now (bytes .entry)) ⌝ }
+    requires { 2 * length items.now ≤ length bytes.old }
+    ensures { bytes.new ≡ bytes_of 2 (map unsignedOf items.now)
+        ++ drop (2 * length items.now) bytes.old }
 {
     let mut i = 0;
     while i < items.len() {

@@ -2,24 +2,17 @@
 // bytes, and the segmentation that the table spells. A row has for each number of samples the gain of so many segments, which is what
 // their least loss falls short of the sum of squares. Two rows are kept, of one number of segments and of the one before. Segments have
 // at least `min_segment_len` samples each.
-ghost use mathlib.Core.Path.{_≡_};
-ghost use mathlib.Core.List.{_++_};
-ghost use Prim.Native.Nat.{ℕ, min, _+_, _-_, _/_, _<_};
-ghost use lib.ListN.{length, drop};
-ghost use Rattle·segment.specs.Inner.{GainReady};
-ghost use Rattle·least·specs.specs.Segmentation.{startsOf, levelsOf, chosenOf};
-ghost use Rattle·least·specs.specs.Inner.{LimitFrom, LimitAt, LeftFrom, LeftAt, SeedFrom, Seeded, DownFrom, Picked, PickFrom, Found};
-ghost use Rattle·least·specs.specs.Inner.{KeepFrom, Kept, NextFrom, NextRow, RowIs, RowsFrom};
-ghost use Rattle·least·specs.specs.Inner.{Table, TableFrom, TraceFrom, LevelsFrom};
-use layout::get_u16;
-use layout::put_u16;
-use segment::CELLS;
-use segment::MAX_SAMPLES;
-use segment::prefix_squares;
-use segment::prefix_sums;
-use segment::reciprocals;
-use segment::segment_gain;
-use segment::segment_level;
+ghost use Rattle.std.specs.Prelude.{◌≡◌, ◌++◌, ℕ, min, ◌+◌, ◌-◌, ◌/◌, ◌<◌, length, drop};
+ghost use Rattle.segment.specs.Inner.{GainReady};
+ghost use Rattle.least.specs.Segmentation.{startsOf, levelsOf, chosen_of};
+ghost use Rattle.least.specs.Inner.{LimitFrom, LimitAt, LeftFrom, LeftAt, SeedFrom, Seeded, DownFrom, Picked, PickFrom, Found};
+ghost use Rattle.least.specs.Inner.{KeepFrom, Kept, NextFrom, NextRow, RowIs, RowsFrom};
+ghost use Rattle.least.specs.Inner.{Table, TableFrom, TraceFrom, LevelsFrom};
+
+use layout::{get_u16, put_u16};
+use segment::{
+    CELLS, MAX_SAMPLES, prefix_squares, prefix_sums, reciprocals, segment_gain, segment_level,
+};
 
 // The most segments that a caller may ask for.
 pub const MAX_SEGMENTS: usize = 32;
@@ -29,18 +22,21 @@ pub const MAX_SEGMENTS: usize = 32;
 pub const SCRATCH_LEN: usize = 2 * (MAX_SAMPLES * (MAX_SEGMENTS - 1));
 
 // A start to search down from, no later one being better: the number of samples before the last segment, and that segment's own gain.
+#[derive(Drop)]
 struct Seed {
     own: u64,
     start: usize,
 }
 
 // A last segment: the number of samples before it, and the gain of it and of what stands before it.
+#[derive(Drop)]
 struct LastSegment {
     gain: u64,
     start: usize,
 }
 
 // What a search finds: a last segment, and the limit that the next search may begin with.
+#[derive(Drop)]
 struct Pick {
     gain: u64,
     start: usize,
@@ -59,8 +55,8 @@ fn right_limit(
     lost: u64,
     from: usize,
 ) -> usize
-    requires { ⌜ LimitFrom (now samples) (now floors) «min_segment_len» m to from ⌝ }
-    ensures { λ r. ⌜ LimitAt (now (samples .entry)) «min_segment_len» m to lost r ⌝ }
+    requires { LimitFrom samples.now floors.now min_segment_len m to from }
+    ensures { LimitAt samples.now min_segment_len m to lost result }
 {
     let mut right = from;
     while right + min_segment_len < to {
@@ -74,7 +70,7 @@ fn right_limit(
 
 // The later of two places.
 fn later(a: usize, b: usize) -> usize
-    ensures { λ r. ⌜ r ≡ a + (b - a) ⌝ }
+    ensures { result ≡ a + (b - a) }
 {
     if a < b { b } else { a }
 }
@@ -98,10 +94,8 @@ fn lowest_left(
     tail: u64,
     goal: u64,
 ) -> usize
-    requires { ⌜
-        LeftFrom (now samples) (now squares) (now floors) (now row) «min_segment_len» m to base low i tail goal
-        ⌝ }
-    ensures { λ r. ⌜ LeftAt (now (samples .entry)) «min_segment_len» m to base i goal r ⌝ }
+    requires { LeftFrom samples.now squares.now floors.now row.now min_segment_len m to base low i tail goal }
+    ensures { LeftAt samples.now min_segment_len m to base i goal result }
 {
     let rest = goal - tail;
     if rest <= row[i] {
@@ -132,12 +126,10 @@ fn seed_from(
     own: u64,
     right: usize,
 ) -> Seed
-    requires { ⌜
-        SeedFrom
-        (now samples) (now sums) (now recips) (now squares) (now old) (now floors) (now row)
-        «min_segment_len» m to s own right
-        ⌝ }
-    ensures { λ r. ⌜ Seeded (now (samples .entry)) «min_segment_len» m to (r .own) (r .start) ⌝ }
+    requires { SeedFrom
+        samples.now sums.now recips.now squares.now old.now floors.now row.now
+        min_segment_len m to s own right }
+    ensures { Seeded samples.now min_segment_len m to result.own result.start }
 {
     let bound = old[s] + own;
     let mut low = s + 1;
@@ -184,12 +176,10 @@ fn down_from(
     own: u64,
     from: usize,
 ) -> LastSegment
-    requires { ⌜
-        DownFrom
-        (now samples) (now sums) (now recips) (now squares) (now old) (now floors) (now row)
-        «min_segment_len» m to own from
-        ⌝ }
-    ensures { λ r. ⌜ Picked (now (samples .entry)) «min_segment_len» m to (r .gain) (r .start) ⌝ }
+    requires { DownFrom
+        samples.now sums.now recips.now squares.now old.now floors.now row.now
+        min_segment_len m to own from }
+    ensures { Picked samples.now min_segment_len m to result.gain result.start }
 {
     let base = (m + 1) * min_segment_len;
     let mut low = base;
@@ -242,12 +232,10 @@ fn pick_start(
     s: usize,
     right: usize,
 ) -> Pick
-    requires { ⌜
-        PickFrom
-        (now samples) (now sums) (now recips) (now squares) (now old) (now floors) (now row)
-        «min_segment_len» m to s right
-        ⌝ }
-    ensures { λ r. ⌜ Found (now (samples .entry)) «min_segment_len» m to (r .gain) (r .start) (r .right) ⌝ }
+    requires { PickFrom
+        samples.now sums.now recips.now squares.now old.now floors.now row.now
+        min_segment_len m to s right }
+    ensures { Found samples.now min_segment_len m to result.gain result.start result.right }
 {
     let own = segment_gain(samples, sums, recips, s, to);
     let bound = old[s] + own;
@@ -310,14 +298,10 @@ fn next_row(
     min_segment_len: usize,
     m: usize,
 )
-    requires { ⌜
-        NextFrom
-        (now samples) (now sums) (now recips) (now squares) (now old) (now floors) (now row) (now scratch)
-        «min_segment_len» m
-        ⌝ }
-    ensures { λ r. ⌜
-        NextRow (now (samples .entry)) «min_segment_len» m (now (row .exit)) (now (scratch .entry)) (now (scratch .exit))
-        ⌝ }
+    requires { NextFrom
+        samples.now sums.now recips.now squares.now old.now floors.now row.old scratch.old
+        min_segment_len m }
+    ensures { NextRow samples.now min_segment_len m row.new scratch.old scratch.new }
 {
     let base = MAX_SAMPLES * m;
     let mut s = (m + 1) * min_segment_len;
@@ -348,7 +332,7 @@ fn next_row(
 
 // The lower of two losses.
 fn lower(a: u64, b: u64) -> u64
-    ensures { λ r. ⌜ r ≡ min a b ⌝ }
+    ensures { result ≡ min a b }
 {
     if a < b { a } else { b }
 }
@@ -364,8 +348,8 @@ fn keep_row(
     min_segment_len: usize,
     m: usize,
 )
-    requires { ⌜ KeepFrom (now samples) (now squares) (now row) (now old) (now floors) «min_segment_len» m ⌝ }
-    ensures { λ r. ⌜ Kept (now (samples .entry)) «min_segment_len» m (now (old .exit)) (now (floors .exit)) ⌝ }
+    requires { KeepFrom samples.now squares.now row.now old.old floors.old min_segment_len m }
+    ensures { Kept samples.now min_segment_len m old.new floors.new }
 {
     let low = (m + 1) * min_segment_len;
     let mut i = samples.len();
@@ -381,8 +365,8 @@ fn keep_row(
 
 // The gains of one segment over the first j samples, for each j.
 fn first_row(samples: &[i16], sums: &[u32], recips: &[u64], row: &mut [u64])
-    requires { ⌜ GainReady (now samples) (now sums) (now recips) × (length (now samples) < length (now row)) ⌝ }
-    ensures { λ r. ⌜ ((d : ℕ) → 0 < d → RowIs (now (samples .entry)) d 0 (now (row .exit))) ⌝ }
+    requires { GainReady samples.now sums.now recips.now × (length samples.now < length row.old) }
+    ensures { (d : ℕ) → 0 < d → RowIs samples.now d 0 row.new }
 {
     let n = samples.len();
     let mut j = 0;
@@ -406,12 +390,10 @@ fn all_rows(
     min_segment_len: usize,
     k: usize,
 )
-    requires { ⌜
-        RowsFrom
-        (now samples) (now sums) (now recips) (now squares) (now old) (now floors) (now row) (now losses) (now scratch)
-        «min_segment_len» k
-        ⌝ }
-    ensures { λ r. ⌜ Table (now (samples .entry)) «min_segment_len» k (now (losses .exit)) (now (scratch .exit)) ⌝ }
+    requires { RowsFrom
+        samples.now sums.now recips.now squares.now old.old floors.old row.old losses.old scratch.old
+        min_segment_len k }
+    ensures { Table samples.now min_segment_len k losses.new scratch.new }
 {
     let n = samples.len();
     let all = squares[n];
@@ -438,7 +420,7 @@ fn all_rows(
 
 // The smaller of two numbers.
 pub fn smaller(a: usize, b: usize) -> usize
-    ensures { λ r. ⌜ r ≡ min a b ⌝ }
+    ensures { result ≡ min a b }
 {
     if a < b { a } else { b }
 }
@@ -451,11 +433,9 @@ pub fn fill_table(
     losses: &mut [u64],
     scratch: &mut [u8],
 ) -> usize
-    requires { ⌜ TableFrom (now samples) «min_segment_len» «max_segments» (now losses) (now scratch) ⌝ }
-    ensures { λ r. ⌜
-        (r ≡ min «max_segments» (length (now (samples .entry)) / «min_segment_len»))
-        × Table (now (samples .entry)) «min_segment_len» r (now (losses .exit)) (now (scratch .exit))
-        ⌝ }
+    requires { TableFrom samples.now min_segment_len max_segments losses.old scratch.old }
+    ensures { (result ≡ min max_segments (length samples.now / min_segment_len))
+        × Table samples.now min_segment_len result losses.new scratch.new }
 {
     let mut sums = [0u32; CELLS];
     let mut recips = [0u64; CELLS];
@@ -492,11 +472,9 @@ pub fn trace_back(
     min_segment_len: usize,
     segments: usize,
 )
-    requires { ⌜ TraceFrom (now samples) (now scratch) (now starts) «min_segment_len» segments ⌝ }
-    ensures { λ r. ⌜
-        now (starts .exit)
-        ≡ startsOf (chosenOf (now (samples .entry)) «min_segment_len» segments) ++ drop segments (now (starts .entry))
-        ⌝ }
+    requires { TraceFrom samples.now scratch.now starts.old min_segment_len segments }
+    ensures { starts.new
+        ≡ startsOf (chosen_of samples.now min_segment_len segments) ++ drop segments starts.old }
 {
     let mut left = segments;
     let mut j = samples.len();
@@ -518,11 +496,9 @@ pub fn put_levels(
     min_segment_len: usize,
     segments: usize,
 )
-    requires { ⌜ LevelsFrom (now samples) (now starts) (now levels) «min_segment_len» segments ⌝ }
-    ensures { λ r. ⌜
-        now (levels .exit)
-        ≡ levelsOf (chosenOf (now (samples .entry)) «min_segment_len» segments) ++ drop segments (now (levels .entry))
-        ⌝ }
+    requires { LevelsFrom samples.now starts.now levels.old min_segment_len segments }
+    ensures { levels.new
+        ≡ levelsOf (chosen_of samples.now min_segment_len segments) ++ drop segments levels.old }
 {
     let mut left = segments;
     let mut to = samples.len();

@@ -1,57 +1,57 @@
 -- An append in place, judged step by step: its input and its answer.
-use mathlib.Core.Path.{_≡_, refl, sym, ap, _∙_}
+use mathlib.Core.Path.{◌≡◌, refl, sym, ap, ◌∙◌}
 use mathlib.Core.Bool.{Bool, true, false, cond}
-use mathlib.Core.List.{List, [], _∷_}
-use Prim.Native.Nat.{ℕ, _+_, _≤_, _<_}
+use mathlib.Core.List.{List, [], ◌∷◌}
+use Prim.Native.Nat.{ℕ, ◌+◌, ◌≤◌, ◌<◌}
 use native.Mathlib.Omega.{arith}
 use lib.Dec.{ltb, eqb}
-use borrow.Author.Tests.{lt-ltb, le-ltb, eq-eqb, ne-eqb}
-use Rattle·path.specs.Model.{Model}
-use Rattle·path.specs.Update.{passedOver}
-use Rattle·path.specs.Refusal.{Check, check, refusalOf, roomFor, maxModels, modelChecks}
-use Rattle·path.specs.Inner.{tallyOf}
-use Rattle·path.specs.declared.Kept.{Kept}
-use Rattle·path.specs.declared.PathResult.{PathResult}
-use Rattle·path.specs.declared.tally.Tally.{Tally}
-use Rattle·path.proofs.Checks.{check-fails, check-passes, refuses, accepts}
-use Rattle·models·specs.specs.Inner.{lossOf, topOf, inputChecks, inputOf, refusedBy, judgedOf}
-use Rattle·models·specs.specs.InPlace.{modelIn}
-use Rattle·models·specs.specs.declared.Entry.{Entry}
-use Rattle·models·specs.specs.declared.Input.{Input}
-use Rattle·models·specs.specs.declared.Judged.{Judged}
+use borrow.Author.Tests.{lt-ltb, le-ltb, eq-eqb, ne_eqb}
+use Rattle.path.specs.Model.{Model}
+use Rattle.path.specs.Update.{passedOver}
+use Rattle.path.specs.Refusal.{Check, check, refusalOf, room_for, maxModels, modelChecks}
+use Rattle.path.specs.Inner.{tally_of}
+use Rattle.path.specs.declared.Kept.{Kept}
+use Rattle.path.specs.declared.PathResult.{PathResult}
+use Rattle.path.specs.declared.tally.Tally.{Tally}
+use Rattle.path.proofs.Checks.{check-fails, check-passes, refuses, accepts}
+use Rattle.models.specs.Inner.{lossOf, top_of, inputChecks, input_of, refusedBy, judgedOf}
+use Rattle.models.specs.InPlace.{modelIn}
+use Rattle.models.specs.declared.Entry.{Entry}
+use Rattle.models.specs.declared.Input.{Input}
+use Rattle.models.specs.declared.Judged.{Judged}
 
 -- A choice, by how its test comes out.
-first-of : {A : Type 0} (t : Bool) (x y : A) → t ≡ true → x ≡ cond t x y
-first-of t x y e = rw e
+first_of : {A : Type 0} (t : Bool) (x y : A) → t ≡ true → x ≡ cond t x y
+first_of t x y e = rw e
 
 pub second-of : {A : Type 0} (t : Bool) (x y : A) → t ≡ false → y ≡ cond t x y
 second-of t x y e = rw e
 
 module _ (n : ℕ) (last : Entry) (m : Model) where
   abbrev top : List Model
-  top = topOf n last
+  top = top_of n last
 
   has-top : (n ≡ 0 → ⊥) → (modelIn last ∷ []) ≡ top
-  has-top z = second-of (eqb n 0) [] (modelIn last ∷ []) (ne-eqb n 0 z)
+  has-top z = second-of (eqb n 0) [] (modelIn last ∷ []) (ne_eqb n 0 z)
 
   -- How many entries the model is tried against.
-  over-first : n ≡ 0 → 0 ≡ cond (passedOver top m) 0 n
-  over-first z = by-test (passedOver top m)
+  over_first : n ≡ 0 → 0 ≡ cond (passedOver top m) 0 n
+  over_first z = by-test (passedOver top m)
     where
       by-test : (b : Bool) → 0 ≡ cond b 0 n
       by-test true = refl
       by-test false = sym z
 
-  over-equal : (n ≡ 0 → ⊥) → m .loss ≡ lossOf last → 0 ≡ cond (passedOver top m) 0 n
+  over_equal : (n ≡ 0 → ⊥) → m.loss ≡ lossOf last → 0 ≡ cond (passedOver top m) 0 n
   unfolding passedOver
-  over-equal z e = first-of (passedOver top m) 0 n (ap (λ (p : List Model). passedOver p m) (sym (has-top z)) ∙ eq-eqb (m .loss) (lossOf last) e)
+  over_equal z e = first_of (passedOver top m) 0 n (ap (λ (p : List Model). passedOver p m) (sym (has-top z)) ∙ eq-eqb m.loss (lossOf last) e)
 
-  over-other : (n ≡ 0 → ⊥) → (m .loss ≡ lossOf last → ⊥) → n ≡ cond (passedOver top m) 0 n
+  over-other : (n ≡ 0 → ⊥) → (m.loss ≡ lossOf last → ⊥) → n ≡ cond (passedOver top m) 0 n
   unfolding passedOver
-  over-other z e = second-of (passedOver top m) 0 n (ap (λ (p : List Model). passedOver p m) (sym (has-top z)) ∙ ne-eqb (m .loss) (lossOf last) e)
+  over-other z e = second-of (passedOver top m) 0 n (ap (λ (p : List Model). passedOver p m) (sym (has-top z)) ∙ ne_eqb m.loss (lossOf last) e)
 
   -- The input by cases, with a tally of no test.
-  module _ (valid : Bool) (tests : Tally) (none : tests ≡ tallyOf 0) where
+  module _ (valid : Bool) (tests : Tally) (none : tests ≡ tally_of 0) where
     abbrev checks : List Check
     checks = inputChecks n valid last m
 
@@ -59,26 +59,26 @@ module _ (n : ℕ) (last : Entry) (m : Model) where
     input refused tried made = record { refusal = refused; tried = tried; tests = made }
 
     abbrev done : Input
-    done = input 0 (cond (passedOver top m) 0 n) (tallyOf 0)
+    done = input 0 (cond (passedOver top m) 0 n) (tally_of 0)
 
-    pub input-eight : valid ≡ false → input 8 0 tests ≡ inputOf n valid last m
-    input-eight h = ap (input 8 0) none ∙ refuses checks (λ c. input c 0 (tallyOf 0)) done 8 (sym (check-fails (check 8 valid) _ h)) (λ e. absurd (omega arith))
+    pub input-eight : valid ≡ false → input 8 0 tests ≡ input_of n valid last m
+    input-eight h = ap (input 8 0) none ∙ refuses checks (λ c. input c 0 (tally_of 0)) done 8 (sym (check-fails (check 8 valid) _ h)) (λ e. absurd (omega arith))
 
     module _ (v : valid ≡ true) (c : ℕ) (e : c ≡ refusalOf (modelChecks top m)) where
-      pub input-refused : (c ≡ 0 → ⊥) → input c 0 tests ≡ inputOf n valid last m
-      input-refused h = ap (input c 0) none ∙ refuses checks (λ k. input k 0 (tallyOf 0)) done c (e ∙ sym (check-passes (check 8 valid) _ v)) h
+      pub input-refused : (c ≡ 0 → ⊥) → input c 0 tests ≡ input_of n valid last m
+      input-refused h = ap (input c 0) none ∙ refuses checks (λ k. input k 0 (tally_of 0)) done c (e ∙ sym (check-passes (check 8 valid) _ v)) h
 
       module _ (z : c ≡ 0) where
-        input-done : (tried : ℕ) → tried ≡ cond (passedOver top m) 0 n → input 0 tried tests ≡ inputOf n valid last m
-        input-done tried t = (λ i. input 0 (t i) (none i)) ∙ accepts checks (λ k. input k 0 (tallyOf 0)) done (check-passes (check 8 valid) _ v ∙ sym e ∙ z)
+        input-done : (tried : ℕ) → tried ≡ cond (passedOver top m) 0 n → input 0 tried tests ≡ input_of n valid last m
+        input-done tried t = (λ i. input 0 (t i) (none i)) ∙ accepts checks (λ k. input k 0 (tally_of 0)) done (check-passes (check 8 valid) _ v ∙ sym e ∙ z)
 
-        pub input-first : n ≡ 0 → input 0 0 tests ≡ inputOf n valid last m
-        input-first y = input-done 0 (over-first y)
+        pub input-first : n ≡ 0 → input 0 0 tests ≡ input_of n valid last m
+        input-first y = input-done 0 (over_first y)
 
-        pub input-over : (n ≡ 0 → ⊥) → m .loss ≡ lossOf last → input 0 0 tests ≡ inputOf n valid last m
-        input-over y l = input-done 0 (over-equal y l)
+        pub input-over : (n ≡ 0 → ⊥) → m.loss ≡ lossOf last → input 0 0 tests ≡ input_of n valid last m
+        input-over y l = input-done 0 (over_equal y l)
 
-        pub input-tried : (n ≡ 0 → ⊥) → (m .loss ≡ lossOf last → ⊥) → input 0 n tests ≡ inputOf n valid last m
+        pub input-tried : (n ≡ 0 → ⊥) → (m.loss ≡ lossOf last → ⊥) → input 0 n tests ≡ input_of n valid last m
         input-tried y l = input-done n (over-other y l)
 
 -- The answer by cases.
@@ -90,30 +90,30 @@ module _ (refusal n room tried : ℕ) (found : Kept) where
   result refused entries tests = record { refusal = refused; entries = entries; tests = tests }
 
   abbrev over : Judged
-  over = judged (result 0 n (found .tests)) false 0
+  over = judged (result 0 n found.tests) false 0
 
   abbrev put : Judged
-  put = judged (result 0 (found .entries + 1) (found .tests)) true (found .entries)
+  put = judged (result 0 (found.entries + 1) found.tests) true found.entries
 
   abbrev fits : Bool
-  fits = roomFor (found .entries + 1) (maxModels ∷ room ∷ [])
+  fits = room_for (found.entries + 1) (maxModels ∷ room ∷ [])
 
-  pub answer-refused : (refusal ≡ 0 → ⊥) → (r : PathResult) → r ≡ result refusal 0 (tallyOf 0) → judged r false 0 ≡ judgedOf refusal n room tried found
-  answer-refused h r e = ap (λ (x : PathResult). judged x false 0) e ∙ second-of (eqb refusal 0) (cond (ltb tried n) over (cond fits put (refusedBy 9))) (refusedBy refusal) (ne-eqb refusal 0 h)
+  pub answer-refused : (refusal ≡ 0 → ⊥) → (r : PathResult) → r ≡ result refusal 0 (tally_of 0) → judged r false 0 ≡ judgedOf refusal n room tried found
+  answer-refused h r e = ap (λ (x : PathResult). judged x false 0) e ∙ second-of (eqb refusal 0) (cond (ltb tried n) over (cond fits put (refusedBy 9))) (refusedBy refusal) (ne_eqb refusal 0 h)
 
   module _ (h : refusal ≡ 0) where
     accepted : cond (ltb tried n) over (cond fits put (refusedBy 9)) ≡ judgedOf refusal n room tried found
-    accepted = first-of (eqb refusal 0) (cond (ltb tried n) over (cond fits put (refusedBy 9))) (refusedBy refusal) (eq-eqb refusal 0 h)
+    accepted = first_of (eqb refusal 0) (cond (ltb tried n) over (cond fits put (refusedBy 9))) (refusedBy refusal) (eq-eqb refusal 0 h)
 
     pub answer-over : tried < n → over ≡ judgedOf refusal n room tried found
-    answer-over l = first-of (ltb tried n) over (cond fits put (refusedBy 9)) (lt-ltb tried n l) ∙ accepted
+    answer-over l = first_of (ltb tried n) over (cond fits put (refusedBy 9)) (lt-ltb tried n l) ∙ accepted
 
     module _ (l : n ≤ tried) where
       on : cond fits put (refusedBy 9) ≡ judgedOf refusal n room tried found
       on = second-of (ltb tried n) over (cond fits put (refusedBy 9)) (le-ltb tried n l) ∙ accepted
 
-      pub answer-nine : fits ≡ false → (r : PathResult) → r ≡ result 9 0 (tallyOf 0) → judged r false 0 ≡ judgedOf refusal n room tried found
+      pub answer-nine : fits ≡ false → (r : PathResult) → r ≡ result 9 0 (tally_of 0) → judged r false 0 ≡ judgedOf refusal n room tried found
       answer-nine f r e = ap (λ (x : PathResult). judged x false 0) e ∙ second-of fits put (refusedBy 9) f ∙ on
 
       pub answer-put : fits ≡ true → put ≡ judgedOf refusal n room tried found
-      answer-put f = first-of fits put (refusedBy 9) f ∙ on
+      answer-put f = first_of fits put (refusedBy 9) f ∙ on

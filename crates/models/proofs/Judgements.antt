@@ -1,45 +1,45 @@
 -- An append of entries in place: its input and its answer are those of the call on the three lists.
-use mathlib.Core.Path.{_≡_, refl, sym, ap, subst, _∙_}
+use mathlib.Core.Path.{◌≡◌, refl, sym, ap, subst, ◌∙◌}
 use mathlib.Core.Bool.{Bool, true, false, cond, false≢true}
-use mathlib.Core.List.{List, [], _∷_}
-use Prim.Native.Nat.{ℕ, zero, suc, _+_, _-_, _≤_, _<_}
+use mathlib.Core.List.{List, [], ◌∷◌}
+use Prim.Native.Nat.{ℕ, zero, suc, ◌+◌, ◌-◌, ◌≤◌, ◌<◌}
 use native.Mathlib.Omega.{arith}
-use lib.ListN.{length, getD, length-map}
+use lib.ListN.{length, get_or, length-map}
 use lib.Dec.{eqb}
-use borrow.Author.Tests.{ne-eqb}
-use Rattle·path.specs.Model.{Model, Lists, modelAt, pathOf}
-use Rattle·path.specs.Update.{kept, testsMade, passedOver}
-use Rattle·path.specs.Refusal.{check, refusalOf, roomFor, maxModels, validPath, valueAbove, lossNotAbove, modelChecks}
-use Rattle·path.specs.Append.{pathOutcome, appendOf}
-use Rattle·path.specs.Inner.{Scannable, KeepsOf, tallyOf}
-use Rattle·path.specs.declared.Kept.{Kept}
-use Rattle·path.proofs.Checks.{refuses, accepts, room-parts}
-use Rattle·path.proofs.Order.{acceptable, scannable}
-use Rattle·path.proofs.Paths.{length-path, keeps-nothing}
-use Rattle·path.proofs.Updates.{kept-few}
-use Rattle·path.proofs.Cases as cases
-use Rattle·models·specs.specs.Entries.{lossesIn, weightsIn, listsIn}
-use Rattle·models·specs.specs.Inner.{noEntry, sizeOf, lossOf, storedTo, topOf, inputChecks, inputOf, refusedBy, judgedOf, Judges}
-use Rattle·models·specs.specs.InPlace.{modelIn}
-use Rattle·models·specs.specs.declared.Entry.{Entry}
-use Rattle·models·specs.specs.declared.Input.{Input}
-use Rattle·models·specs.specs.declared.Judged.{Judged}
-use Rattle·models·proofs.proofs.Looks.{model-in, room-is}
-use Rattle·models·proofs.proofs.Appends.{second-of, answer-refused, answer-over, answer-nine, answer-put}
+use borrow.Author.Tests.{ne_eqb}
+use Rattle.path.specs.Model.{Model, Lists, model_at, pathOf}
+use Rattle.path.specs.Update.{kept, testsMade, passedOver}
+use Rattle.path.specs.Refusal.{check, refusalOf, room_for, maxModels, validPath, valueAbove, lossNotAbove, modelChecks}
+use Rattle.path.specs.Append.{pathOutcome, appendOf}
+use Rattle.path.specs.Inner.{Scannable, KeepsOf, tally_of}
+use Rattle.path.specs.declared.Kept.{Kept}
+use Rattle.path.proofs.Checks.{refuses, accepts, room-parts}
+use Rattle.path.proofs.Order.{acceptable, scannable}
+use Rattle.path.proofs.Paths.{length-path, keeps-nothing}
+use Rattle.path.proofs.Updates.{kept-few}
+use Rattle.path.proofs.Cases as cases
+use Rattle.models.specs.Entries.{lossesIn, weightsIn, listsIn}
+use Rattle.models.specs.Inner.{noEntry, size_of, lossOf, storedTo, top_of, inputChecks, input_of, refusedBy, judgedOf, Judges}
+use Rattle.models.specs.InPlace.{modelIn}
+use Rattle.models.specs.declared.Entry.{Entry}
+use Rattle.models.specs.declared.Input.{Input}
+use Rattle.models.specs.declared.Judged.{Judged}
+use Rattle.models.proofs.Looks.{model_in, room-is}
+use Rattle.models.proofs.Appends.{second-of, answer-refused, answer-over, answer-nine, answer-put}
 
 -- The entry at place n - 1 is the top of the path, as far as the top goes.
 module _ {X : Type 0} (F : List Model → X) (head : (e : Model) (r : List Model) → F (e ∷ []) ≡ F (e ∷ r)) (ys : List Entry) where
-  top-same : (n : ℕ) → F (topOf n (getD ys (n - 1) noEntry)) ≡ F (pathOf (listsIn ys) n)
+  top-same : (n : ℕ) → F (top_of n (get_or ys (n - 1) noEntry)) ≡ F (pathOf (listsIn ys) n)
   unfolding pathOf
   top-same zero = refl
   top-same (suc k) =
-      let z : eqb (suc k) 0 ≡ false = ne-eqb (suc k) 0 (λ h. absurd (omega arith)) in
+      let z : eqb (suc k) 0 ≡ false = ne_eqb (suc k) 0 (λ h. absurd (omega arith)) in
       let e : suc k - 1 ≡ k = omega arith in
-      let top : topOf (suc k) (getD ys (suc k - 1) noEntry) ≡ modelAt (listsIn ys) k ∷ [] =
-      sym (second-of (eqb (suc k) 0) [] (modelIn (getD ys (suc k - 1) noEntry) ∷ []) z)
-      ∙ ap (λ (i : ℕ). modelIn (getD ys i noEntry) ∷ []) e
-      ∙ ap (λ (x : Model). x ∷ []) (sym (model-in ys k)) in
-      ap F top ∙ head (modelAt (listsIn ys) k) (pathOf (listsIn ys) k)
+      let top : top_of (suc k) (get_or ys (suc k - 1) noEntry) ≡ model_at (listsIn ys) k ∷ [] =
+      sym (second-of (eqb (suc k) 0) [] (modelIn (get_or ys (suc k - 1) noEntry) ∷ []) z)
+      ∙ ap (λ (i : ℕ). modelIn (get_or ys i noEntry) ∷ []) e
+      ∙ ap (λ (x : Model). x ∷ []) (sym (model_in ys k)) in
+      ap F top ∙ head (model_at (listsIn ys) k) (pathOf (listsIn ys) k)
 
 module _ (ys : List Entry) (n : ℕ) (m : Model) where
   abbrev t : Lists
@@ -49,11 +49,11 @@ module _ (ys : List Entry) (n : ℕ) (m : Model) where
   valid = validPath t n
 
   abbrev last : Entry
-  last = getD ys (n - 1) noEntry
+  last = get_or ys (n - 1) noEntry
 
   -- The input that is made first.
   abbrev pub input : Input
-  input = inputOf n valid last m
+  input = input_of n valid last m
 
   abbrev refusal : ℕ
   refusal = refusalOf (check 8 valid ∷ modelChecks (pathOf t n) m)
@@ -71,23 +71,23 @@ module _ (ys : List Entry) (n : ℕ) (m : Model) where
   same-checks = top-same (λ (p : List Model). refusalOf (check 8 valid ∷ modelChecks p m)) checks-head ys n
 
   -- The model is passed over where the call passes it over.
-  same-over : passedOver (topOf n last) m ≡ passedOver (pathOf t n) m
-  same-over = top-same (λ (p : List Model). passedOver p m) over-head ys n
+  same_over : passedOver (top_of n last) m ≡ passedOver (pathOf t n) m
+  same_over = top-same (λ (p : List Model). passedOver p m) over-head ys n
 
   abbrev made : ℕ → ℕ → Input
-  made number tried = record { refusal = number; tried = tried; tests = tallyOf 0 }
+  made number tried = record { refusal = number; tried = tried; tests = tally_of 0 }
 
   input-refused : (c : ℕ) → refusal ≡ suc c → input ≡ made (suc c) 0
   input-refused c h =
-      sym (refuses (inputChecks n valid last m) (λ number. made number 0) (made 0 (cond (passedOver (topOf n last) m) 0 n)) (suc c) (sym (same-checks ∙ h)) (λ e. absurd (omega arith)))
+      sym (refuses (inputChecks n valid last m) (λ number. made number 0) (made 0 (cond (passedOver (top_of n last) m) 0 n)) (suc c) (sym (same-checks ∙ h)) (λ e. absurd (omega arith)))
 
   input-accepted : refusal ≡ 0 → (b : Bool) → passedOver (pathOf t n) m ≡ b → input ≡ made 0 (cond b 0 n)
   input-accepted h b e =
-      sym (accepts (inputChecks n valid last m) (λ number. made number 0) (made 0 (cond (passedOver (topOf n last) m) 0 n)) (same-checks ∙ h))
-      ∙ ap (λ (o : Bool). made 0 (cond o 0 n)) (same-over ∙ e)
+      sym (accepts (inputChecks n valid last m) (λ number. made number 0) (made 0 (cond (passedOver (top_of n last) m) 0 n)) (same-checks ∙ h))
+      ∙ ap (λ (o : Bool). made 0 (cond o 0 n)) (same_over ∙ e)
 
   abbrev Tries : Input → Type 0
-  Tries x = Scannable (lossesIn ys) (weightsIn ys) (x .tried) (m .loss) (m .weight) (x .tests .count)
+  Tries x = Scannable (lossesIn ys) (weightsIn ys) x.tried m.loss m.weight x.tests.count
 
   tries-none : (c : ℕ) → Tries (made c 0)
   tries-none c = record { in-losses = omega arith; in-weights = omega arith; countable = omega arith; near = λ i p. absurd (omega arith) }
@@ -96,33 +96,33 @@ module _ (ys : List Entry) (n : ℕ) (m : Model) where
   pub can-try : Tries input
   can-try = by-refusal refusal refl
     where
-      by-over : (h : refusal ≡ 0) (b : Bool) → passedOver (pathOf t n) m ≡ b → Tries input
-      by-over h true e = subst Tries (sym (input-accepted h true e)) (tries-none 0)
-      by-over h false e = subst Tries (sym (input-accepted h false e)) (scannable t n m 0 (acceptable t n m h) (omega arith))
+      by_over : (h : refusal ≡ 0) (b : Bool) → passedOver (pathOf t n) m ≡ b → Tries input
+      by_over h true e = subst Tries (sym (input-accepted h true e)) (tries-none 0)
+      by_over h false e = subst Tries (sym (input-accepted h false e)) (scannable t n m 0 (acceptable t n m h) (omega arith))
 
       by-refusal : (c : ℕ) → refusal ≡ c → Tries input
-      by-refusal zero h = by-over h (passedOver (pathOf t n) m) refl
+      by-refusal zero h = by_over h (passedOver (pathOf t n) m) refl
       by-refusal (suc c) h = subst Tries (sym (input-refused c h)) (tries-none (suc c))
 
   -- What is found, and what is answered then.
   abbrev Finds : Input → Kept → Type 0
-  Finds x found = KeepsOf (lossesIn ys) (weightsIn ys) (x .tried) (m .loss) (m .weight) (x .tests .count) found
+  Finds x found = KeepsOf (lossesIn ys) (weightsIn ys) x.tried m.loss m.weight x.tests.count found
 
-  pub found-few : (found : Kept) → Finds input found → found .entries ≤ length ys
+  pub found-few : (found : Kept) → Finds input found → found.entries ≤ length ys
   found-few found f =
-      let e = ap (λ (x : Kept). x .entries) (f (t .sizes) (m .size)) in
-      omega (arith, e, kept-few (pathOf t (input .tried)) m .0, length-path t (input .tried), can-try .in-losses, length-map ys lossOf)
+      let e = ap (λ (x : Kept). x.entries) (f t.sizes m.size) in
+      omega (arith, e, (kept-few (pathOf t input.tried) m).0, length-path t input.tried, can-try.in-losses, length-map ys lossOf)
 
   abbrev pub judgement : Input → Kept → Judged
-  judgement x found = judgedOf (x .refusal) n (length ys) (x .tried) found
+  judgement x found = judgedOf x.refusal n (length ys) x.tried found
 
   -- A judgement that nothing is to be stored.
-  keeps : (r : Judged) → r .stores ≡ false → pathOutcome (r .answer) t ≡ appendOf t n m → Judges t n m r
-  keeps r s e = record { stays = λ _. e; in-list = λ y. absurd (false≢true (sym s ∙ y)); stored-as = λ y. absurd (false≢true (sym s ∙ y)) }
+  keeps : (r : Judged) → r.stores ≡ false → pathOutcome r.answer t ≡ appendOf t n m → Judges t n m r
+  keeps r s e = record { stays = λ _. e; in_list = λ y. absurd (false≢true (sym s ∙ y)); stored-as = λ y. absurd (false≢true (sym s ∙ y)) }
 
   refused-right : (c : ℕ) → refusal ≡ suc c → (found : Kept) → Judges t n m (judgement (made (suc c) 0) found)
   refused-right c h found =
-      subst (Judges t n m) (answer-refused (suc c) n (length ys) 0 found (λ e. absurd (omega arith)) (record { refusal = suc c; entries = 0; tests = tallyOf 0 }) refl)
+      subst (Judges t n m) (answer-refused (suc c) n (length ys) 0 found (λ e. absurd (omega arith)) (record { refusal = suc c; entries = 0; tests = tally_of 0 }) refl)
       (keeps (refusedBy (suc c)) refl (cases.input-refused t n m (suc c) (sym h) (λ e. absurd (omega arith))))
 
   not-empty : (k : ℕ) → passedOver (pathOf t k) m ≡ true → 0 < k
@@ -133,48 +133,48 @@ module _ (ys : List Entry) (n : ℕ) (m : Model) where
   module _ (h : refusal ≡ 0) (found : Kept) where
     over-right : passedOver (pathOf t n) m ≡ true → Finds (made 0 0) found → Judges t n m (judgement (made 0 0) found)
     over-right e f =
-        let k = ap (λ (x : Kept). x .tests .count) (f (t .sizes) (m .size)) in
-        let none : found .tests .count ≡ 0 = omega (arith, k, keeps-nothing t m refl .1) in
+        let k = ap (λ (x : Kept). x.tests.count) (f t.sizes m.size) in
+        let none : found.tests.count ≡ 0 = omega (arith, k, (keeps-nothing t m refl).1) in
         subst (Judges t n m) (answer-over 0 n (length ys) 0 found refl (not-empty n e))
-        (keeps (record { answer = record { refusal = 0; entries = n; tests = found .tests }; stores = false; kept = 0 }) refl (cases.passes-over t n m h e 0 (found .tests .count) refl none))
+        (keeps (record { answer = record { refusal = 0; entries = n; tests = found.tests }; stores = false; kept = 0 }) refl (cases.passes_over t n m h e 0 found.tests.count refl none))
 
     tried-right : passedOver (pathOf t n) m ≡ false → Finds (made 0 n) found → Judges t n m (judgement (made 0 n) found)
-    tried-right e f = by-room (roomFor (found .entries + 1) (maxModels ∷ length ys ∷ [])) refl
+    tried-right e f = by-room (room_for (found.entries + 1) (maxModels ∷ length ys ∷ [])) refl
       where
-        entries : found .entries ≡ length (kept (pathOf t n) m)
-        entries = ap (λ (x : Kept). x .entries) (f (t .sizes) (m .size))
+        entries : found.entries ≡ length (kept (pathOf t n) m)
+        entries = ap (λ (x : Kept). x.entries) (f t.sizes m.size)
 
-        tests : found .tests .count ≡ testsMade (pathOf t n) m
-        tests = let k = ap (λ (x : Kept). x .tests .count) (f (t .sizes) (m .size)) in omega (arith, k)
+        tests : found.tests.count ≡ testsMade (pathOf t n) m
+        tests = let k = ap (λ (x : Kept). x.tests.count) (f t.sizes m.size) in omega (arith, k)
 
         put : Judged
-        put = record { answer = record { refusal = 0; entries = found .entries + 1; tests = found .tests }; stores = true; kept = found .entries }
+        put = record { answer = record { refusal = 0; entries = found.entries + 1; tests = found.tests }; stores = true; kept = found.entries }
 
-        by-room : (b : Bool) → roomFor (found .entries + 1) (maxModels ∷ length ys ∷ []) ≡ b → Judges t n m (judgement (made 0 n) found)
+        by-room : (b : Bool) → room_for (found.entries + 1) (maxModels ∷ length ys ∷ []) ≡ b → Judges t n m (judgement (made 0 n) found)
         by-room false y =
-            subst (Judges t n m) (answer-nine 0 n (length ys) n found refl (omega arith) y (record { refusal = 9; entries = 0; tests = tallyOf 0 }) refl)
-            (keeps (refusedBy 9) refl (cases.room-refused t n m h e (found .entries) entries (room-is ys (found .entries + 1) ∙ y)))
+            subst (Judges t n m) (answer-nine 0 n (length ys) n found refl (omega arith) y (record { refusal = 9; entries = 0; tests = tally_of 0 }) refl)
+            (keeps (refusedBy 9) refl (cases.room-refused t n m h e found.entries entries (room-is ys (found.entries + 1) ∙ y)))
         by-room true y =
-            let room = room-parts (found .entries + 1) (maxModels ∷ length ys ∷ []) y in
-            let long = length-map ys sizeOf in
+            let room = room-parts (found.entries + 1) (maxModels ∷ length ys ∷ []) y in
+            let long = length-map ys size_of in
             subst (Judges t n m) (answer-put 0 n (length ys) n found refl (omega arith) y)
             (record {
               stays = λ z. absurd (false≢true (sym z));
-              in-list = λ z. (omega (arith, room .1 .0, long), acceptable t n m h .valid .places .in-sizes);
-              stored-as = λ z. cases.accepted t n m h e (found .entries) entries (room-is ys (found .entries + 1) ∙ y) (storedTo (found .entries) n m t) (found .tests .count) tests refl refl refl;
+              in_list = λ z. (omega (arith, room.1.0, long), (acceptable t n m h).valid.places.in-sizes);
+              stored-as = λ z. cases.accepted t n m h e found.entries entries (room-is ys (found.entries + 1) ∙ y) (storedTo found.entries n m t) found.tests.count tests refl refl refl;
             })
 
   pub judged-right : (found : Kept) → Finds input found → Judges t n m (judgement input found)
   judged-right found f = by-refusal refusal refl
     where
-      by-over : (h : refusal ≡ 0) (b : Bool) → passedOver (pathOf t n) m ≡ b → Judges t n m (judgement input found)
-      by-over h true e =
+      by_over : (h : refusal ≡ 0) (b : Bool) → passedOver (pathOf t n) m ≡ b → Judges t n m (judgement input found)
+      by_over h true e =
           let x = input-accepted h true e in
           subst (λ (y : Input). Judges t n m (judgement y found)) (sym x) (over-right h found e (subst (λ (y : Input). Finds y found) x f))
-      by-over h false e =
+      by_over h false e =
           let x = input-accepted h false e in
           subst (λ (y : Input). Judges t n m (judgement y found)) (sym x) (tried-right h found e (subst (λ (y : Input). Finds y found) x f))
 
       by-refusal : (c : ℕ) → refusal ≡ c → Judges t n m (judgement input found)
-      by-refusal zero h = by-over h (passedOver (pathOf t n) m) refl
+      by-refusal zero h = by_over h (passedOver (pathOf t n) m) refl
       by-refusal (suc c) h = subst (λ (y : Input). Judges t n m (judgement y found)) (sym (input-refused c h)) (refused-right c h found)

@@ -1,50 +1,50 @@
 -- The order check of entries, which looks from the last one back. It tests sizes and weights from above and losses from below, with the
 -- range of the loss, and at the end that the first size and weight are not 0: what is in range at both ends is in range between them.
-use mathlib.Core.Path.{_≡_, refl, ap, sym, _∙_, subst}
-use mathlib.Core.Bool.{Bool, true, false, cond, _&&_, false≢true}
-use mathlib.Core.Logic.{_⊎_, inl, inr}
-use mathlib.Core.List.{List, [], _∷_}
-use Prim.Native.Nat.{ℕ, zero, suc, _+_, _-_, _≤_, _<_}
+use mathlib.Core.Path.{◌≡◌, refl, ap, sym, ◌∙◌, subst}
+use mathlib.Core.Bool.{Bool, true, false, cond, ◌&&◌, false≢true}
+use mathlib.Core.Logic.{◌⊎◌, inl, inr}
+use mathlib.Core.List.{List, [], ◌∷◌}
+use Prim.Native.Nat.{ℕ, zero, suc, ◌+◌, ◌-◌, ◌≤◌, ◌<◌}
 use native.Mathlib.Omega.{arith}
 use lib.Dec.{ltb, leb}
-use lib.ListN.{length, getD, length-map}
+use lib.ListN.{length, get_or, length-map}
 use borrow.Author.Tests.{ltb-true, leb-true, le-leb, lt-ltb}
-use Rattle·path.specs.Model.{Model, Lists, modelAt, pathOf}
-use Rattle·path.specs.Refusal.{maxSize, maxLoss, maxWeight, maxModels, inRange, follows, ordered, roomFor, pathRoom, validPath}
-use Rattle·path.proofs.Checks.{both, room-parts}
-use Rattle·path.proofs.Order.{within, Before, follows-before}
-use Rattle·path.proofs.Turns.{Small, before-small, ordered-none, ordered-one, last-fails, order-fails, entry-passes}
-use Rattle·models·specs.specs.Entries.{listsIn}
-use Rattle·models·specs.specs.Inner.{noEntry}
-use Rattle·models·specs.specs.InPlace.{modelIn, lookOf, noLook, lookFrom, looksRight, lookOn, lookPasses}
-use Rattle·models·specs.specs.declared.Entry.{Entry}
-use Rattle·models·specs.specs.declared.Look.{Look}
+use Rattle.path.specs.Model.{Model, Lists, model_at, pathOf}
+use Rattle.path.specs.Refusal.{maxSize, maxLoss, maxWeight, maxModels, in_range, follows, ordered, room_for, pathRoom, validPath}
+use Rattle.path.proofs.Checks.{both, room-parts}
+use Rattle.path.proofs.Order.{within, Before, follows-before}
+use Rattle.path.proofs.Turns.{Small, before_small, ordered-none, ordered-one, last-fails, order-fails, entry-passes}
+use Rattle.models.specs.Entries.{listsIn}
+use Rattle.models.specs.Inner.{noEntry}
+use Rattle.models.specs.InPlace.{modelIn, look_of, noLook, lookFrom, looksRight, lookOn, lookPasses}
+use Rattle.models.specs.declared.Entry.{Entry}
+use Rattle.models.specs.declared.Look.{Look}
 
 -- What an entry that is as a look asks tells.
 pub record Right (s : Look) (e : Entry) : Type 0 where
-  pub size : e .size < s .size
-  pub loss : s .loss ≤ e .loss
-  pub low : e .loss ≤ maxLoss
-  pub weight : e .weight < s .weight
+  pub size : e.size < s.size
+  pub loss : s.loss ≤ e.loss
+  pub low : e.loss ≤ maxLoss
+  pub weight : e.weight < s.weight
 
 pub right : (s : Look) (e : Entry) → looksRight s e ≡ true → Right s e
 right s e h =
-    let a = both (ltb (e .size) (s .size) && leb (s .loss) (e .loss) && leb (e .loss) maxLoss) (ltb (e .weight) (s .weight)) h in
-    let b = both (ltb (e .size) (s .size) && leb (s .loss) (e .loss)) (leb (e .loss) maxLoss) (a .0) in
-    let d = both (ltb (e .size) (s .size)) (leb (s .loss) (e .loss)) (b .0) in
-    record { size = ltb-true _ _ (d .0); loss = leb-true _ _ (d .1); low = leb-true _ _ (b .1); weight = ltb-true _ _ (a .1) }
+    let a = both (ltb e.size s.size && leb s.loss e.loss && leb e.loss maxLoss) (ltb e.weight s.weight) h in
+    let b = both (ltb e.size s.size && leb s.loss e.loss) (leb e.loss maxLoss) a.0 in
+    let d = both (ltb e.size s.size) (leb s.loss e.loss) b.0 in
+    record { size = ltb-true _ _ d.0; loss = leb-true _ _ d.1; low = leb-true _ _ b.1; weight = ltb-true _ _ a.1 }
 
-is-right : (s : Look) (e : Entry) → Right s e → looksRight s e ≡ true
-is-right s e r = rw (lt-ltb _ _ (r .size), le-leb _ _ (r .loss), le-leb _ _ (r .low), lt-ltb _ _ (r .weight))
+is_right : (s : Look) (e : Entry) → Right s e → looksRight s e ≡ true
+is_right s e r = rw (lt-ltb _ _ r.size, le-leb _ _ r.loss, le-leb _ _ r.low, lt-ltb _ _ r.weight)
 
-not-right : (s : Look) (e : Entry) → looksRight s e ≡ false → Right s e → ⊥
-not-right s e h r = false≢true (sym h ∙ is-right s e r)
+not_right : (s : Look) (e : Entry) → looksRight s e ≡ false → Right s e → ⊥
+not_right s e h r = false≢true (sym h ∙ is_right s e r)
 
 -- What the lists of entries have at a place is the entry there.
-pub model-in : (ys : List Entry) (i : ℕ) → modelAt (listsIn ys) i ≡ modelIn (getD ys i noEntry)
-model-in [] i = refl
-model-in (y ∷ ys) zero = refl
-model-in (y ∷ ys) (suc i) = model-in ys i
+pub model_in : (ys : List Entry) (i : ℕ) → model_at (listsIn ys) i ≡ modelIn (get_or ys i noEntry)
+model_in [] i = refl
+model_in (y ∷ ys) zero = refl
+model_in (y ∷ ys) (suc i) = model_in ys i
 
 -- Tests that hold do not matter.
 with-true : (x y : Bool) → (x && y) ≡ (x && true && true && (y && true))
@@ -55,19 +55,19 @@ with-true false y = refl
 module _ (t : Lists) (n len : ℕ) (v : Bool) where
   -- Before the last entry is looked at.
   pub record Fresh (s : Look) : Type 0 where
-    pub is : s ≡ lookOf n (maxSize + 1) 0 (maxWeight + 1)
+    pub is : s ≡ look_of n (maxSize + 1) 0 (maxWeight + 1)
     pub room : n ≤ len
     pub same : ordered (pathOf t n) ≡ v
 
   -- The entries from `left` on are in order, and so the ones up to it decide.
   pub record Reached (s : Look) : Type 0 where
-    pub size : s .size ≡ modelAt t (s .left) .size
-    pub loss : s .loss ≡ modelAt t (s .left) .loss + 1
-    pub weight : s .weight ≡ modelAt t (s .left) .weight
-    pub inside : s .left < len
-    pub small : Small (modelAt t (s .left))
-    pub low : modelAt t (s .left) .loss ≤ maxLoss
-    pub same : ordered (pathOf t (suc (s .left))) ≡ v
+    pub size : s.size ≡ (model_at t s.left).size
+    pub loss : s.loss ≡ (model_at t s.left).loss + 1
+    pub weight : s.weight ≡ (model_at t s.left).weight
+    pub inside : s.left < len
+    pub small : Small (model_at t s.left)
+    pub low : (model_at t s.left).loss ≤ maxLoss
+    pub same : ordered (pathOf t (suc s.left)) ≡ v
 
   -- The path is refused.
   pub record Refused (s : Look) : Type 0 where
@@ -78,134 +78,134 @@ module _ (t : Lists) (n len : ℕ) (v : Bool) where
   abbrev pub Looking : Look → Type 0
   Looking s = Fresh s ⊎ (Reached s ⊎ Refused s)
 
-  pub look-within : (s : Look) → Looking s → s .left ≤ len
-  look-within s (inl h) = omega (arith, ap (λ (x : Look). x .left) (h .is), h .room)
-  look-within s (inr (inl h)) = omega (arith, h .inside)
-  look-within s (inr (inr h)) = omega (arith, ap (λ (x : Look). x .left) (h .is))
+  pub look-within : (s : Look) → Looking s → s.left ≤ len
+  look-within s (inl h) = omega (arith, ap (λ (x : Look). x.left) h.is, h.room)
+  look-within s (inr (inl h)) = omega (arith, h.inside)
+  look-within s (inr (inr h)) = omega (arith, ap (λ (x : Look). x.left) h.is)
 
   -- The look at entry `at`.
-  module _ (s : Look) (at : ℕ) (e : Entry) (some : s .left ≡ suc at) (is : modelAt t at ≡ modelIn e) where
+  module _ (s : Look) (at : ℕ) (e : Entry) (some : s.left ≡ suc at) (is : model_at t at ≡ modelIn e) where
     abbrev after : Look
-    after = lookOf (s .left - 1) (e .size) (e .loss + 1) (e .weight)
+    after = look_of (s.left - 1) e.size (e.loss + 1) e.weight
 
     abbrev d : Model
-    d = modelAt t at
+    d = model_at t at
 
     -- The look after it, where it is taken.
     reached : Right s e → at < len → Small d → ordered (pathOf t (suc at)) ≡ v → Reached after
     reached r inside small same =
-        let e′ : s .left - 1 ≡ at = omega (arith, some) in
-        subst (λ (i : ℕ). Reached (lookOf i (e .size) (e .loss + 1) (e .weight))) (sym e′)
+        let e' : s.left - 1 ≡ at = omega (arith, some) in
+        subst (λ (i : ℕ). Reached (look_of i e.size (e.loss + 1) e.weight)) (sym e')
         (record {
-          size = ap (λ (m : Model). m .size) (sym is);
-          loss = ap (λ (m : Model). m .loss + 1) (sym is);
-          weight = ap (λ (m : Model). m .weight) (sym is);
+          size = ap (λ (m : Model). m.size) (sym is);
+          loss = ap (λ (m : Model). m.loss + 1) (sym is);
+          weight = ap (λ (m : Model). m.weight) (sym is);
           inside = inside;
           small = small;
-          low = subst (λ (m : Model). m .loss ≤ maxLoss) (sym is) (r .low);
+          low = subst (λ (m : Model). m.loss ≤ maxLoss) (sym is) r.low;
           same = same;
         })
 
     -- The entry's numbers, as the lists have them.
-    right-size : Right s e → d .size < s .size
-    right-size r = subst (λ (m : Model). m .size < s .size) (sym is) (r .size)
+    right-size : Right s e → d.size < s.size
+    right-size r = subst (λ (m : Model). m.size < s.size) (sym is) r.size
 
-    right-loss : Right s e → s .loss ≤ d .loss
-    right-loss r = subst (λ (m : Model). s .loss ≤ m .loss) (sym is) (r .loss)
+    right-loss : Right s e → s.loss ≤ d.loss
+    right-loss r = subst (λ (m : Model). s.loss ≤ m.loss) (sym is) r.loss
 
-    right-weight : Right s e → d .weight < s .weight
-    right-weight r = subst (λ (m : Model). m .weight < s .weight) (sym is) (r .weight)
+    right-weight : Right s e → d.weight < s.weight
+    right-weight r = subst (λ (m : Model). m.weight < s.weight) (sym is) r.weight
 
-    rights : d .size < s .size → s .loss ≤ d .loss → d .loss ≤ maxLoss → d .weight < s .weight → Right s e
+    rights : d.size < s.size → s.loss ≤ d.loss → d.loss ≤ maxLoss → d.weight < s.weight → Right s e
     rights a b c f =
         record {
-          size = subst (λ (m : Model). m .size < s .size) is a;
-          loss = subst (λ (m : Model). s .loss ≤ m .loss) is b;
-          low = subst (λ (m : Model). m .loss ≤ maxLoss) is c;
-          weight = subst (λ (m : Model). m .weight < s .weight) is f;
+          size = subst (λ (m : Model). m.size < s.size) is a;
+          loss = subst (λ (m : Model). s.loss ≤ m.loss) is b;
+          low = subst (λ (m : Model). m.loss ≤ maxLoss) is c;
+          weight = subst (λ (m : Model). m.weight < s.weight) is f;
         }
 
     -- What a look is before the last entry.
-    left-is : Fresh s → s .left ≡ n
-    left-is f = ap (λ (x : Look). x .left) (f .is)
+    left_is : Fresh s → s.left ≡ n
+    left_is f = ap (λ (x : Look). x.left) f.is
 
-    size-is : Fresh s → s .size ≡ maxSize + 1
-    size-is f = ap (λ (x : Look). x .size) (f .is)
+    size_is : Fresh s → s.size ≡ maxSize + 1
+    size_is f = ap (λ (x : Look). x.size) f.is
 
-    loss-is : Fresh s → s .loss ≡ 0
-    loss-is f = ap (λ (x : Look). x .loss) (f .is)
+    loss-is : Fresh s → s.loss ≡ 0
+    loss-is f = ap (λ (x : Look). x.loss) f.is
 
-    weight-is : Fresh s → s .weight ≡ maxWeight + 1
-    weight-is f = ap (λ (x : Look). x .weight) (f .is)
+    weight_is : Fresh s → s.weight ≡ maxWeight + 1
+    weight_is f = ap (λ (x : Look). x.weight) f.is
 
     fresh-same : Fresh s → ordered (pathOf t (suc at)) ≡ v
-    fresh-same f = ap (λ (k : ℕ). ordered (pathOf t k)) (sym some ∙ left-is f) ∙ f .same
+    fresh-same f = ap (λ (k : ℕ). ordered (pathOf t k)) (sym some ∙ left_is f) ∙ f.same
 
     -- The last entry is taken, or is out of range.
-    fresh-on : Fresh s → (b : Bool) → looksRight s e ≡ b → Looking (cond b after noLook)
-    fresh-on f true h =
+    fresh_on : Fresh s → (b : Bool) → looksRight s e ≡ b → Looking (cond b after noLook)
+    fresh_on f true h =
         let r = right s e h in
-        let small : Small d = record { size = omega (arith, right-size r, size-is f); weight = omega (arith, right-weight r, weight-is f) } in
-        inr (inl (reached r (omega (arith, some, f .room, left-is f)) small (fresh-same f)))
-    fresh-on f false h = inr (inr (record { is = refl; no-path = sym (fresh-same f) ∙ by-range (inRange d) refl }))
+        let small : Small d = record { size = omega (arith, right-size r, size_is f); weight = omega (arith, right-weight r, weight_is f) } in
+        inr (inl (reached r (omega (arith, some, f.room, left_is f)) small (fresh-same f)))
+    fresh_on f false h = inr (inr (record { is = refl; no-path = sym (fresh-same f) ∙ by-range (in_range d) refl }))
       where
-        by-range : (b : Bool) → inRange d ≡ b → ordered (pathOf t (suc at)) ≡ false
+        by-range : (b : Bool) → in_range d ≡ b → ordered (pathOf t (suc at)) ≡ false
         by-range true g =
             let w = within d g in
-            absurd (not-right s e h (rights (omega (arith, w .small, size-is f)) (omega (arith, loss-is f)) (w .low) (omega (arith, w .light, weight-is f))))
+            absurd (not_right s e h (rights (omega (arith, w.small, size_is f)) (omega (arith, loss-is f)) w.low (omega (arith, w.light, weight_is f))))
         by-range false g = last-fails t at g
 
     -- An entry before one that was taken is in order and taken, or out of order, or has a loss out of range.
     reached-on : Reached s → (b : Bool) → looksRight s e ≡ b → Looking (cond b after noLook)
     reached-on f true h =
         let r = right s e h in
-        let m = modelAt t (s .left) in
-        let b : Before d m = record { sizes = omega (arith, right-size r, f .size); losses = omega (arith, right-loss r, f .loss); weights = omega (arith, right-weight r, f .weight) } in
-        let g : follows d m ≡ true = rw (lt-ltb _ _ (b .sizes), lt-ltb _ _ (b .losses), lt-ltb _ _ (b .weights)) in
-        inr (inl (reached r (omega (arith, some, f .inside)) (before-small b (f .small)) (sym (entry-passes t at (s .left) some g (f .small)) ∙ f .same)))
-    reached-on f false h = inr (inr (record { is = refl; no-path = sym (f .same) ∙ by-order (follows d m) refl }))
+        let m = model_at t s.left in
+        let b : Before d m = record { sizes = omega (arith, right-size r, f.size); losses = omega (arith, right-loss r, f.loss); weights = omega (arith, right-weight r, f.weight) } in
+        let g : follows d m ≡ true = rw (lt-ltb _ _ b.sizes, lt-ltb _ _ b.losses, lt-ltb _ _ b.weights) in
+        inr (inl (reached r (omega (arith, some, f.inside)) (before_small b f.small) (sym (entry-passes t at s.left some g f.small) ∙ f.same)))
+    reached-on f false h = inr (inr (record { is = refl; no-path = sym f.same ∙ by_order (follows d m) refl }))
       where
         m : Model
-        m = modelAt t (s .left)
+        m = model_at t s.left
 
-        by-range : follows d m ≡ true → (b : Bool) → inRange d ≡ b → ordered (pathOf t (suc (s .left))) ≡ false
+        by-range : follows d m ≡ true → (b : Bool) → in_range d ≡ b → ordered (pathOf t (suc s.left)) ≡ false
         by-range o true g =
             let w = within d g in
             let a = follows-before d m o in
-            absurd (not-right s e h (rights (omega (arith, a .sizes, f .size)) (omega (arith, a .losses, f .loss)) (w .low) (omega (arith, a .weights, f .weight))))
-        by-range o false g = entry-passes t at (s .left) some o (f .small) ∙ last-fails t at g
+            absurd (not_right s e h (rights (omega (arith, a.sizes, f.size)) (omega (arith, a.losses, f.loss)) w.low (omega (arith, a.weights, f.weight))))
+        by-range o false g = entry-passes t at s.left some o f.small ∙ last-fails t at g
 
-        by-order : (b : Bool) → follows d m ≡ b → ordered (pathOf t (suc (s .left))) ≡ false
-        by-order true o = by-range o (inRange d) refl
-        by-order false o = order-fails t at (s .left) some o
+        by_order : (b : Bool) → follows d m ≡ b → ordered (pathOf t (suc s.left)) ≡ false
+        by_order true o = by-range o (in_range d) refl
+        by_order false o = order-fails t at s.left some o
 
     pub look-on : Looking s → Looking (lookOn s e)
-    look-on (inl f) = fresh-on f (looksRight s e) refl
+    look-on (inl f) = fresh_on f (looksRight s e) refl
     look-on (inr (inl f)) = reached-on f (looksRight s e) refl
-    look-on (inr (inr f)) = absurd (none-left (sym some ∙ ap (λ (x : Look). x .left) (f .is)))
+    look-on (inr (inr f)) = absurd (none_left (sym some ∙ ap (λ (x : Look). x.left) f.is))
       where
-        none-left : suc at ≡ 0 → ⊥
-        none-left h = omega arith
+        none_left : suc at ≡ 0 → ⊥
+        none_left h = omega arith
 
     -- It leaves fewer entries.
-    pub look-less : lookOn s e .left < s .left
+    pub look-less : (lookOn s e).left < s.left
     look-less = by-test (looksRight s e)
       where
-        by-test : (b : Bool) → cond b after noLook .left < s .left
+        by-test : (b : Bool) → (cond b after noLook).left < s.left
         by-test true = omega (arith, some)
         by-test false = omega (arith, some)
 
-  pub look-ends : (s : Look) → s .left ≡ 0 → Looking s → lookPasses s ≡ v
-  look-ends s z (inl h) = rw (h .is) (sym (ordered-none t (sym (ap (λ (x : Look). x .left) (h .is)) ∙ z)) ∙ h .same)
+  pub look-ends : (s : Look) → s.left ≡ 0 → Looking s → lookPasses s ≡ v
+  look-ends s z (inl h) = rw h.is (sym (ordered-none t (sym (ap (λ (x : Look). x.left) h.is) ∙ z)) ∙ h.same)
   look-ends s z (inr (inl h)) =
-      rw (h .size, h .weight, z) (ends-at (h .small) (h .low) ∙ sym (ordered-one t z) ∙ h .same)
+      rw (h.size, h.weight, z) (ends_at h.small h.low ∙ sym (ordered-one t z) ∙ h.same)
     where
-      ends-at : Small (modelAt t (s .left)) → modelAt t (s .left) .loss ≤ maxLoss → (leb 1 (modelAt t 0 .size) && leb 1 (modelAt t 0 .weight)) ≡ inRange (modelAt t 0)
-      ends-at a b =
-          let a′ : Small (modelAt t 0) = subst (λ (i : ℕ). Small (modelAt t i)) z a in
-          let b′ : modelAt t 0 .loss ≤ maxLoss = subst (λ (i : ℕ). modelAt t i .loss ≤ maxLoss) z b in
-          rw (le-leb _ _ (a′ .size), le-leb _ _ b′, le-leb _ _ (a′ .weight)) (with-true (leb 1 (modelAt t 0 .size)) (leb 1 (modelAt t 0 .weight)))
-  look-ends s z (inr (inr h)) = rw (h .is) (sym (h .no-path))
+      ends_at : Small (model_at t s.left) → (model_at t s.left).loss ≤ maxLoss → (leb 1 (model_at t 0).size && leb 1 (model_at t 0).weight) ≡ in_range (model_at t 0)
+      ends_at a b =
+          let a' : Small (model_at t 0) = subst (λ (i : ℕ). Small (model_at t i)) z a in
+          let b' : (model_at t 0).loss ≤ maxLoss = subst (λ (i : ℕ). (model_at t i).loss ≤ maxLoss) z b in
+          rw (le-leb _ _ a'.size, le-leb _ _ b', le-leb _ _ a'.weight) (with-true (leb 1 (model_at t 0).size) (leb 1 (model_at t 0).weight))
+  look-ends s z (inr (inr h)) = rw h.is (sym h.no-path)
 
 -- The look at the start of a list of entries.
 module _ (ys : List Entry) (n : ℕ) where
@@ -218,20 +218,20 @@ module _ (ys : List Entry) (n : ℕ) where
   room-thrice false y = refl
 
   -- Three lists have room where the list of entries has.
-  pub room-is : pathRoom given n ≡ roomFor n (maxModels ∷ length ys ∷ [])
+  pub room-is : pathRoom given n ≡ room_for n (maxModels ∷ length ys ∷ [])
   room-is =
-      rw (length-map ys (λ (e : Entry). e .size), length-map ys (λ (e : Entry). e .loss), length-map ys (λ (e : Entry). e .weight))
+      rw (length-map ys (λ (e : Entry). e.size), length-map ys (λ (e : Entry). e.loss), length-map ys (λ (e : Entry). e.weight))
       (room-thrice (leb n maxModels) (leb n (length ys)))
 
   pub look-start : Looking given n (length ys) (validPath given n) (lookFrom n (length ys))
   unfolding validPath
-  look-start = by-test (roomFor n (maxModels ∷ length ys ∷ [])) refl
+  look-start = by-test (room_for n (maxModels ∷ length ys ∷ [])) refl
     where
-      by-test : (b : Bool) → roomFor n (maxModels ∷ length ys ∷ []) ≡ b
-          → Looking given n (length ys) (pathRoom given n && ordered (pathOf given n)) (cond b (lookOf n (maxSize + 1) 0 (maxWeight + 1)) noLook)
+      by-test : (b : Bool) → room_for n (maxModels ∷ length ys ∷ []) ≡ b
+          → Looking given n (length ys) (pathRoom given n && ordered (pathOf given n)) (cond b (look_of n (maxSize + 1) 0 (maxWeight + 1)) noLook)
       by-test true h =
           let whole : pathRoom given n ≡ true = room-is ∙ h in
-          inl (record { is = refl; room = room-parts n (maxModels ∷ length ys ∷ []) h .1 .0; same = sym (ap (λ (b : Bool). b && ordered (pathOf given n)) whole) })
+          inl (record { is = refl; room = (room-parts n (maxModels ∷ length ys ∷ []) h).1.0; same = sym (ap (λ (b : Bool). b && ordered (pathOf given n)) whole) })
       by-test false h =
           let none : pathRoom given n ≡ false = room-is ∙ h in
           inr (inr (record { is = refl; no-path = ap (λ (b : Bool). b && ordered (pathOf given n)) none }))

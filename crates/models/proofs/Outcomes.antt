@@ -1,21 +1,21 @@
 -- What a listing of entries in place leaves, by the answer that is made before anything is written.
-use mathlib.Core.Path.{_≡_, refl, sym, ap, _∙_}
+use mathlib.Core.Path.{◌≡◌, refl, sym, ap, ◌∙◌}
 use mathlib.Core.Bool.{Bool}
 use mathlib.Core.List.{List, []}
-use Prim.Native.Nat.{ℕ, zero, suc, _-_}
+use Prim.Native.Nat.{ℕ, zero, suc, ◌-◌}
 use native.Mathlib.Omega.{arith}
 use lib.ListN.{length}
-use Rattle·path.specs.Model.{Lists, pathOf, valuesOf}
-use Rattle·path.specs.Update.{Fraction, pathBreakpoints}
-use Rattle·path.specs.Refusal.{Check, refusalOf, validPath}
-use Rattle·path.proofs.Checks.{refuses, accepts}
-use Rattle·select.specs.Breakpoints.{breakpointsOutcome, breakpointsChecks, breakpointsOf}
-use Rattle·select.specs.Inner.{Listable, Written}
-use Rattle·select.specs.declared.BreakpointsResult.{BreakpointsResult}
-use Rattle·select.proofs.Listings.{listing-checks, breakpoints-refused, breakpoints-done, listable}
-use Rattle·models·specs.specs.Entries.{lossesIn, weightsIn, listsIn}
-use Rattle·models·specs.specs.Inner.{listingChecks, listingOf}
-use Rattle·models·specs.specs.declared.Entry.{Entry}
+use Rattle.path.specs.Model.{Lists, pathOf, values_of}
+use Rattle.path.specs.Update.{Fraction, pathBreakpoints}
+use Rattle.path.specs.Refusal.{Check, refusalOf, validPath}
+use Rattle.path.proofs.Checks.{refuses, accepts}
+use Rattle.select.specs.Breakpoints.{breakpointsOutcome, breakpointsChecks, breakpointsOf}
+use Rattle.select.specs.Inner.{Listable, Written}
+use Rattle.select.specs.declared.BreakpointsResult.{BreakpointsResult}
+use Rattle.select.proofs.Listings.{listing-checks, breakpoints-refused, breakpoints-done, listable}
+use Rattle.models.specs.Entries.{lossesIn, weightsIn, listsIn}
+use Rattle.models.specs.Inner.{listingChecks, listingOf}
+use Rattle.models.specs.declared.Entry.{Entry}
 
 abbrev result : ℕ → ℕ → BreakpointsResult
 result refusal count = record { refusal = refusal; count = count }
@@ -54,13 +54,13 @@ module _ (ys : List Entry) (n : ℕ) (n₀ d₀ : List ℕ) where
   refused c h = sym (refuses checks (λ number. result number 0) (result 0 (n - 1)) (suc c) (sym (same-checks ∙ h)) (λ e. absurd (omega arith)))
 
   -- So many breakpoints can be written.
-  pub can-list : Listable (lossesIn ys) (weightsIn ys) (answer .count) (length n₀) (length d₀)
+  pub can-list : Listable (lossesIn ys) (weightsIn ys) answer.count (length n₀) (length d₀)
   can-list = by-refusal refusal refl
     where
-      by-refusal : (c : ℕ) → refusal ≡ c → Listable (lossesIn ys) (weightsIn ys) (answer .count) (length n₀) (length d₀)
-      by-refusal zero h = listable t n n₀ d₀ h (answer .count) (ap (λ (r : BreakpointsResult). r .count) (accepted h))
+      by-refusal : (c : ℕ) → refusal ≡ c → Listable (lossesIn ys) (weightsIn ys) answer.count (length n₀) (length d₀)
+      by-refusal zero h = listable t n n₀ d₀ h answer.count (ap (λ (r : BreakpointsResult). r.count) (accepted h))
       by-refusal (suc c) h =
-          let none : answer .count ≡ 0 = ap (λ (r : BreakpointsResult). r .count) (refused c h) in
+          let none : answer.count ≡ 0 = ap (λ (r : BreakpointsResult). r.count) (refused c h) in
           record {
             in-losses = λ i p. absurd (omega arith);
             in-weights = λ i p. absurd (omega arith);
@@ -71,25 +71,25 @@ module _ (ys : List Entry) (n : ℕ) (n₀ d₀ : List ℕ) where
           }
 
   -- A buffer to which no breakpoint is written is as it was.
-  as-was : (field : Fraction → ℕ) (b b′ : List ℕ) (k : ℕ) → k ≡ 0 → Written field (lossesIn ys) (weightsIn ys) b b′ k → b′ ≡ b
-  unfolding pathOf pathBreakpoints valuesOf
-  as-was field b b′ k e w = let none = rw e at w in none .is []
+  as-was : (field : Fraction → ℕ) (b b' : List ℕ) (k : ℕ) → k ≡ 0 → Written field (lossesIn ys) (weightsIn ys) b b' k → b' ≡ b
+  unfolding pathOf pathBreakpoints values_of
+  as-was field b b' k e w = let none = rw e at w in none.is []
 
-  pub listed-all : (n′ d′ : List ℕ)
-      → Written (λ (b : Fraction). b .numerator) (lossesIn ys) (weightsIn ys) n₀ n′ (answer .count)
-      → Written (λ (b : Fraction). b .denominator) (lossesIn ys) (weightsIn ys) d₀ d′ (answer .count)
-      → breakpointsOutcome answer n′ d′ ≡ breakpointsOf t n n₀ d₀
-  listed-all n′ d′ w z = by-refusal refusal refl
+  pub listed-all : (n' d' : List ℕ)
+      → Written (λ (b : Fraction). b.numerator) (lossesIn ys) (weightsIn ys) n₀ n' answer.count
+      → Written (λ (b : Fraction). b.denominator) (lossesIn ys) (weightsIn ys) d₀ d' answer.count
+      → breakpointsOutcome answer n' d' ≡ breakpointsOf t n n₀ d₀
+  listed-all n' d' w z = by-refusal refusal refl
     where
-      by-refusal : (c : ℕ) → refusal ≡ c → breakpointsOutcome answer n′ d′ ≡ breakpointsOf t n n₀ d₀
+      by-refusal : (c : ℕ) → refusal ≡ c → breakpointsOutcome answer n' d' ≡ breakpointsOf t n n₀ d₀
       by-refusal zero h =
           let e = accepted h in
-          let r = ap (λ (x : BreakpointsResult). x .refusal) e in
-          (λ i. record { refusal = r i; count = answer .count; numerators = n′; denominators = d′ })
-          ∙ breakpoints-done t n n₀ d₀ h (answer .count) (ap (λ (x : BreakpointsResult). x .count) e) n′ d′ (w .is (t .sizes)) (z .is (t .sizes))
+          let r = ap (λ (x : BreakpointsResult). x.refusal) e in
+          (λ i. record { refusal = r i; count = answer.count; numerators = n'; denominators = d' })
+          ∙ breakpoints-done t n n₀ d₀ h answer.count (ap (λ (x : BreakpointsResult). x.count) e) n' d' (w.is t.sizes) (z.is t.sizes)
       by-refusal (suc c) h =
           let e = refused c h in
-          let none : answer .count ≡ 0 = ap (λ (x : BreakpointsResult). x .count) e in
-          let nums = as-was (λ (b : Fraction). b .numerator) n₀ n′ (answer .count) none w in
-          let dens = as-was (λ (b : Fraction). b .denominator) d₀ d′ (answer .count) none z in
+          let none : answer.count ≡ 0 = ap (λ (x : BreakpointsResult). x.count) e in
+          let nums = as-was (λ (b : Fraction). b.numerator) n₀ n' answer.count none w in
+          let dens = as-was (λ (b : Fraction). b.denominator) d₀ d' answer.count none z in
           (λ i. breakpointsOutcome (e i) (nums i) (dens i)) ∙ breakpoints-refused t n n₀ d₀ (suc c) (sym h) (λ x. absurd (omega arith))

@@ -1,23 +1,23 @@
 -- A scan of entries in place: how it stands before a turn, and what a turn makes of that.
-use mathlib.Core.Path.{_≡_, refl, sym, ap, _∙_}
+use mathlib.Core.Path.{◌≡◌, refl, sym, ap, ◌∙◌}
 use mathlib.Core.Bool.{Bool, true, false, cond}
-use mathlib.Core.Logic.{⊎-elim}
+use mathlib.Core.Logic.{⊎_elim}
 use mathlib.Core.List.{List, []}
-use Prim.Native.Nat.{ℕ, zero, suc, _+_, _-_, _^_, _≤_, _<_, min}
+use Prim.Native.Nat.{ℕ, zero, suc, ◌+◌, ◌-◌, ◌^◌, ◌≤◌, ◌<◌, min}
 use native.Mathlib.Omega.{arith}
-use lib.ListN.{length, getD, length-map}
+use lib.ListN.{length, get_or, length-map}
 use native.Mathlib.Nat.{eq-zero-or-pos}
 use lib.Dec.{eqb}
-use borrow.Author.Tests.{ne-eqb, eqb-true, eqb-false}
-use Rattle·path.specs.Model.{Lists, model, lists, modelAt, pathOf}
-use Rattle·path.specs.Update.{below, fraction, holds, kept, testsMade}
-use Rattle·path.specs.Inner.{Comparable, Scannable, KeepsOf, tallyOf}
-use Rattle·path.specs.declared.Kept.{Kept}
-use Rattle·path.proofs.Paths.{keeps-all, drops-last, first-holds, first-not-dropped, later-holds, keeps-nothing}
-use Rattle·models·specs.specs.Entries.{lossesIn, weightsIn}
-use Rattle·models·specs.specs.Inner.{noEntry, lossOf, weightOf, testAt}
-use Rattle·models·specs.specs.declared.Entry.{Entry}
-use Rattle·models·proofs.proofs.Neighbours.{loss-at, weight-at}
+use borrow.Author.Tests.{ne_eqb, eqb-true, eqb-false}
+use Rattle.path.specs.Model.{Lists, model, lists, model_at, pathOf}
+use Rattle.path.specs.Update.{below, fraction, holds, kept, testsMade}
+use Rattle.path.specs.Inner.{Comparable, Scannable, KeepsOf, tally_of}
+use Rattle.path.specs.declared.Kept.{Kept}
+use Rattle.path.proofs.Paths.{keeps-all, drops-last, first_holds, first-not-dropped, later-holds, keeps-nothing}
+use Rattle.models.specs.Entries.{lossesIn, weightsIn}
+use Rattle.models.specs.Inner.{noEntry, lossOf, weightOf, testAt}
+use Rattle.models.specs.declared.Entry.{Entry}
+use Rattle.models.proofs.Neighbours.{loss-at, weight-at}
 
 module _ (ys : List Entry) (n loss weight c₀ : ℕ) where
   abbrev all : List ℕ → Lists
@@ -33,14 +33,14 @@ module _ (ys : List Entry) (n loss weight c₀ : ℕ) where
         × (c + testsMade (pathOf (all s) i) (model k loss weight) ≡ c₀ + testsMade (pathOf (all s) n) (model k loss weight))
 
   -- What the scan answers once the test at place i has held, or where there is no entry.
-  abbrev pub foundAt : ℕ → ℕ → Kept
-  foundAt i c = record { entries = min (i + 1) n; tests = tallyOf c }
+  abbrev pub found_at : ℕ → ℕ → Kept
+  found_at i c = record { entries = min (i + 1) n; tests = tally_of c }
 
   -- The test at place i has held, the last of c, or there is no entry.
   pub record Found (i c : ℕ) : Type 0 where
     pub few : i ≤ n
     pub count : c ≤ c₀ + n
-    pub keeps : KeepsOf (lossesIn ys) (weightsIn ys) n loss weight c₀ (foundAt i c)
+    pub keeps : KeepsOf (lossesIn ys) (weightsIn ys) n loss weight c₀ (found_at i c)
 
   -- How the scan stands where the last test came out as h.
   abbrev pub Scanning : ℕ → ℕ → Bool → Type 0
@@ -59,76 +59,76 @@ module _ (ys : List Entry) (n loss weight c₀ : ℕ) where
             keeps = λ s k.
                 let e = z refl in
                 let none = keeps-nothing (all s) (model k loss weight) e in
-                let entries : min (n + 1) n ≡ length (kept (pathOf (all s) n) (model k loss weight)) = omega (arith, none .0, e) in
-                let tests : c₀ ≡ c₀ + testsMade (pathOf (all s) n) (model k loss weight) = omega (arith, none .1) in
-                λ i. record { entries = entries i; tests = tallyOf (tests i) };
+                let entries : min (n + 1) n ≡ length (kept (pathOf (all s) n) (model k loss weight)) = omega (arith, none.0, e) in
+                let tests : c₀ ≡ c₀ + testsMade (pathOf (all s) n) (model k loss weight) = omega (arith, none.1) in
+                λ i. record { entries = entries i; tests = tally_of (tests i) };
           }
       by-test false z y =
           let ne : n ≡ 0 → ⊥ = y refl in
-          let many : 1 ≤ n = ⊎-elim (λ (e : n ≡ 0). absurd (ne e)) (λ (p : 0 < n). p) (eq-zero-or-pos n) in
+          let many : 1 ≤ n = ⊎_elim (λ (e : n ≡ 0). absurd (ne e)) (λ (p : 0 < n). p) (eq-zero-or-pos n) in
           record { some = many; few = omega arith; count = refl; keeps = λ s k. (refl, refl) }
 
   -- The test that is made at place a.
-  abbrev pub testOf : ℕ → Bool
-  testOf a = testAt a (lossOf (getD ys (a - 1) noEntry)) (weightOf (getD ys (a - 1) noEntry)) (lossOf (getD ys a noEntry)) (weightOf (getD ys a noEntry)) loss weight
+  abbrev pub test_of : ℕ → Bool
+  test_of a = testAt a (lossOf (get_or ys (a - 1) noEntry)) (weightOf (get_or ys (a - 1) noEntry)) (lossOf (get_or ys a noEntry)) (weightOf (get_or ys a noEntry)) loss weight
 
   later : (l₀ w₀ l₁ w₁ b : ℕ) → testAt (suc b) l₀ w₀ l₁ w₁ loss weight ≡ below (fraction (l₁ - loss) (weight - w₁)) (fraction (l₀ - l₁) (w₁ - w₀))
   later l₀ w₀ l₁ w₁ b =
-      ap (λ (z : Bool). cond z true (below (fraction (l₁ - loss) (weight - w₁)) (fraction (l₀ - l₁) (w₁ - w₀)))) (ne-eqb (suc b) 0 (λ e. absurd (omega arith)))
+      ap (λ (z : Bool). cond z true (below (fraction (l₁ - loss) (weight - w₁)) (fraction (l₀ - l₁) (w₁ - w₀)))) (ne_eqb (suc b) 0 (λ e. absurd (omega arith)))
 
-  test-is : (a : ℕ) (s : List ℕ) (k : ℕ) → testOf a ≡ holds (pathOf (all s) a) (modelAt (all s) a) (model k loss weight)
-  test-is zero s k = sym (first-holds (all s) (modelAt (all s) zero) (model k loss weight) refl)
+  test-is : (a : ℕ) (s : List ℕ) (k : ℕ) → test_of a ≡ holds (pathOf (all s) a) (model_at (all s) a) (model k loss weight)
+  test-is zero s k = sym (first_holds (all s) (model_at (all s) zero) (model k loss weight) refl)
   test-is (suc b) s k =
       let e : suc b - 1 ≡ b = omega arith in
       later _ _ _ _ b
       ∙ rw (e, loss-at ys b, weight-at ys b, loss-at ys (suc b), weight-at ys (suc b)) refl
-      ∙ sym (later-holds (all s) (modelAt (all s) (suc b)) (model k loss weight) (suc b) b refl)
+      ∙ sym (later-holds (all s) (model_at (all s) (suc b)) (model k loss weight) (suc b) b refl)
 
   module _ (can : Scannable (lossesIn ys) (weightsIn ys) n loss weight c₀) where
     pub there : (a : ℕ) → a < n → a < length ys
-    there a h = omega (arith, can .in-losses, length-map ys lossOf)
+    there a h = omega (arith, can.in-losses, length-map ys lossOf)
 
     pub going-small : (i c : ℕ) → Going i c → c < 2 ^ 64
-    going-small i c g = omega (arith, can .countable, g .count)
+    going-small i c g = omega (arith, can.countable, g.count)
 
     pub small-place : (i c : ℕ) → Found i c → i ≤ length ys
-    small-place i c f = omega (arith, can .in-losses, length-map ys lossOf, f .few)
+    small-place i c f = omega (arith, can.in-losses, length-map ys lossOf, f.few)
 
     pub found-small : (i c : ℕ) → Found i c → c < 2 ^ 64
-    found-small i c f = omega (arith, can .countable, f .count, f .few)
+    found-small i c f = omega (arith, can.countable, f.count, f.few)
 
     module _ (a c : ℕ) (g : Going (suc a) c) where
-      pub in-path : a < n
-      in-path = omega (arith, g .few)
+      pub in_path : a < n
+      in_path = omega (arith, g.few)
 
       pub countable : c + a + 1 < 2 ^ 64
-      countable = omega (arith, can .countable, g .count)
+      countable = omega (arith, can.countable, g.count)
 
-      pub comparable : 1 ≤ a → Comparable (lossOf (getD ys (a - 1) noEntry)) (weightOf (getD ys (a - 1) noEntry)) (lossOf (getD ys a noEntry)) (weightOf (getD ys a noEntry)) loss weight
+      pub comparable : 1 ≤ a → Comparable (lossOf (get_or ys (a - 1) noEntry)) (weightOf (get_or ys (a - 1) noEntry)) (lossOf (get_or ys a noEntry)) (weightOf (get_or ys a noEntry)) loss weight
       comparable h =
           let e : suc (a - 1) ≡ a = omega arith in
-          let near = can .near (a - 1) (omega (arith, in-path)) in
+          let near = can.near (a - 1) (omega (arith, in_path)) in
           rw (loss-at ys (a - 1), weight-at ys (a - 1), loss-at ys a, weight-at ys a) (rw e at near)
 
       -- The test is made, and comes out as h.
-      pub goes-on : (h : Bool) → h ≡ testOf a → Scanning a (c + 1) h
-      goes-on true e = record {
-        few = omega (arith, in-path);
-        count = omega (arith, g .count, g .some);
+      pub goes_on : (h : Bool) → h ≡ test_of a → Scanning a (c + 1) h
+      goes_on true e = record {
+        few = omega (arith, in_path);
+        count = omega (arith, g.count, g.some);
         keeps = λ s k.
             let t = all s in
             let m = model k loss weight in
             let held = sym (e ∙ test-is a s k) in
-            let all-stay = keeps-all t m (suc a) a refl held in
-            let entries : min (a + 1) n ≡ length (kept (pathOf t n) m) = omega (arith, in-path, all-stay .0, g .keeps s k .0) in
-            let tests : c + 1 ≡ c₀ + testsMade (pathOf t n) m = omega (arith, all-stay .1, g .keeps s k .1) in
-            λ i. record { entries = entries i; tests = tallyOf (tests i) };
+            let All-stay = keeps-all t m (suc a) a refl held in
+            let entries : min (a + 1) n ≡ length (kept (pathOf t n) m) = omega (arith, in_path, All-stay.0, (g.keeps s k).0) in
+            let tests : c + 1 ≡ c₀ + testsMade (pathOf t n) m = omega (arith, All-stay.1, (g.keeps s k).1) in
+            λ i. record { entries = entries i; tests = tally_of (tests i) };
       }
-      goes-on false e = record {
+      goes_on false e = record {
         some = first-not-dropped (all []) (model 0 loss weight) a (sym (e ∙ test-is a [] 0));
-        few = omega (arith, in-path);
-        count = omega (arith, g .count);
+        few = omega (arith, in_path);
+        count = omega (arith, g.count);
         keeps = λ s k.
             let last = drops-last (all s) (model k loss weight) (suc a) a refl (sym (e ∙ test-is a s k)) in
-            (sym (ap length (last .0)) ∙ g .keeps s k .0, omega (arith, last .1, g .keeps s k .1));
+            (sym (ap length last.0) ∙ (g.keeps s k).0, omega (arith, last.1, (g.keeps s k).1));
       }

@@ -1,17 +1,17 @@
 -- An entry stored in place, with entries of zeros after it.
-use mathlib.Core.Path.{_≡_, refl, sym, ap, _∙_}
-use mathlib.Core.List.{List, [], _∷_, _++_, map, append-nil, append-assoc}
-use Prim.Native.Nat.{ℕ, zero, suc, _+_, _-_, _≤_, _<_}
+use mathlib.Core.Path.{◌≡◌, refl, sym, ap, ◌∙◌}
+use mathlib.Core.List.{List, [], ◌∷◌, ◌++◌, map, append-nil, append_assoc}
+use Prim.Native.Nat.{ℕ, zero, suc, ◌+◌, ◌-◌, ◌≤◌, ◌<◌}
 use native.Mathlib.Omega.{arith}
 use lib.ListN.{length, set, take, drop, replicate, length-set, length-map, length-append, length-replicate, take-append-drop}
 use lib.Seq.{length-take-le}
-use Rattle·path.specs.Model.{model, lists}
-use Rattle·path.specs.Buffer.{overwritten, overwrittenTo}
-use Rattle·path.proofs.Buffers.{front-grows}
-use Rattle·models·specs.specs.Entries.{listsIn}
-use Rattle·models·specs.specs.Inner.{entryOf, noEntry, sizeOf, lossOf, weightOf, storedTo}
-use Rattle·models·specs.specs.declared.Entry.{Entry}
-use Rattle·models·proofs.proofs.Fronts.{map-set}
+use Rattle.path.specs.Model.{model, lists}
+use Rattle.path.specs.Buffer.{overwritten, overwrittenTo}
+use Rattle.path.proofs.Buffers.{front-grows}
+use Rattle.models.specs.Entries.{listsIn}
+use Rattle.models.specs.Inner.{entry_of, noEntry, size_of, lossOf, weightOf, storedTo}
+use Rattle.models.specs.declared.Entry.{Entry}
+use Rattle.models.proofs.Fronts.{map-set}
 
 -- The entries with e at place c and j entries of zeros after it.
 unfoldable pub put : List Entry → ℕ → Entry → ℕ → List Entry
@@ -24,9 +24,9 @@ length-put ys c e zero = length-set ys c e
 length-put ys c e (suc j) = length-set (put ys c e j) (c + 1 + j) noEntry ∙ length-put ys c e j
 
 -- A value again and again, and once more.
-once-more : (x j : ℕ) → replicate j x ++ (x ∷ []) ≡ replicate (suc j) x
-once-more x zero = refl
-once-more x (suc j) = ap (λ (zs : List ℕ). x ∷ zs) (once-more x j)
+once_more : (x j : ℕ) → replicate j x ++ (x ∷ []) ≡ replicate (suc j) x
+once_more x zero = refl
+once_more x (suc j) = ap (λ (zs : List ℕ). x ∷ zs) (once_more x j)
 
 -- A field of the entries, which is 0 where there is none.
 module _ (f : Entry → ℕ) (none : f noEntry ≡ 0) (ys : List Entry) (c : ℕ) (e : Entry) (there : c < length ys) where
@@ -42,8 +42,8 @@ module _ (f : Entry → ℕ) (none : f noEntry ≡ 0) (ys : List Entry) (c : ℕ
   length-first : length (take c zs ++ (f e ∷ [])) ≡ c + 1
   length-first = length-append (take c zs) (f e ∷ []) ∙ ap (λ (k : ℕ). k + 1) (length-take-le c zs (omega (arith, long)))
 
-  length-front : (j : ℕ) → length (front j) ≡ c + 1 + j
-  length-front j = length-append (take c zs ++ (f e ∷ [])) (replicate j 0) ∙ rw (length-first, length-replicate {A = ℕ} j 0) refl
+  length_front : (j : ℕ) → length (front j) ≡ c + 1 + j
+  length_front j = length-append (take c zs ++ (f e ∷ [])) (replicate j 0) ∙ rw (length-first, length-replicate {A = ℕ} j 0) refl
 
   -- The first places of the list and the rest of it.
   same : overwritten (take c zs) zs ≡ zs
@@ -52,33 +52,33 @@ module _ (f : Entry → ℕ) (none : f noEntry ≡ 0) (ys : List Entry) (c : ℕ
   front-more : (j : ℕ) → front j ++ (f noEntry ∷ []) ≡ front (suc j)
   front-more j =
       ap (λ (x : ℕ). front j ++ (x ∷ [])) none
-      ∙ append-assoc (take c zs ++ (f e ∷ [])) (replicate j 0) (0 ∷ [])
-      ∙ ap (λ (l : List ℕ). (take c zs ++ (f e ∷ [])) ++ l) (once-more 0 j)
+      ∙ append_assoc (take c zs ++ (f e ∷ [])) (replicate j 0) (0 ∷ [])
+      ∙ ap (λ (l : List ℕ). (take c zs ++ (f e ∷ [])) ++ l) (once_more 0 j)
 
-  put-front : (j : ℕ) → c + 1 + j ≤ length ys → map f (put ys c e j) ≡ overwritten (front j) zs
+  put_front : (j : ℕ) → c + 1 + j ≤ length ys → map f (put ys c e j) ≡ overwritten (front j) zs
   unfolding put
-  put-front zero h =
+  put_front zero h =
       map-set f ys c e
       ∙ ap (λ (l : List ℕ). set l c (f e)) (sym same)
       ∙ front-grows (take c zs) zs c (f e) (length-take-le c zs (omega (arith, long))) (omega (arith, long))
       ∙ ap (λ (l : List ℕ). overwritten l zs) (sym (append-nil (take c zs ++ (f e ∷ []))))
-  put-front (suc j) h =
+  put_front (suc j) h =
       map-set f (put ys c e j) (c + 1 + j) noEntry
-      ∙ ap (λ (l : List ℕ). set l (c + 1 + j) (f noEntry)) (put-front j (omega arith))
-      ∙ front-grows (front j) zs (c + 1 + j) (f noEntry) (length-front j) (omega (arith, long))
+      ∙ ap (λ (l : List ℕ). set l (c + 1 + j) (f noEntry)) (put_front j (omega arith))
+      ∙ front-grows (front j) zs (c + 1 + j) (f noEntry) (length_front j) (omega (arith, long))
       ∙ ap (λ (l : List ℕ). overwritten l zs) (front-more j)
 
   put-to : (n : ℕ) → n ≤ length ys → map f (put ys c e (n - (c + 1))) ≡ overwrittenTo (take c zs ++ (f e ∷ [])) n zs
   put-to n h =
-      put-front (n - (c + 1)) (omega arith)
+      put_front (n - (c + 1)) (omega arith)
       ∙ ap (λ (k : ℕ). overwritten ((take c zs ++ (f e ∷ [])) ++ replicate (n - k) 0) zs) (sym length-first)
 
 -- The three lists of the entries.
 pub lists-put : (ys : List Entry) (c n u v t : ℕ) → c < length ys → n ≤ length ys
-    → listsIn (put ys c (entryOf u v t) (n - (c + 1))) ≡ storedTo c n (model u v t) (listsIn ys)
+    → listsIn (put ys c (entry_of u v t) (n - (c + 1))) ≡ storedTo c n (model u v t) (listsIn ys)
 lists-put ys c n u v t h k =
-    let e = entryOf u v t in
-    let s = put-to sizeOf refl ys c e h n k in
+    let e = entry_of u v t in
+    let s = put-to size_of refl ys c e h n k in
     let l = put-to lossOf refl ys c e h n k in
     let w = put-to weightOf refl ys c e h n k in
     λ i. lists (s i) (l i) (w i)

@@ -1,59 +1,59 @@
 -- The walk of a selection along entries: what it has come to, turn by turn. It begins before the first entry at a cost above all others.
-use mathlib.Core.Path.{_≡_, refl, ap, sym, _∙_, subst}
+use mathlib.Core.Path.{◌≡◌, refl, ap, sym, ◌∙◌, subst}
 use mathlib.Core.Bool.{Bool, true, false, cond}
-use mathlib.Core.Logic.{_⊎_, inl, inr, ⊎-elim}
+use mathlib.Core.Logic.{◌⊎◌, inl, inr, ⊎_elim}
 use mathlib.Core.List.{List}
-use Prim.Native.Nat.{ℕ, suc, _+_, _-_, _^_, _≤_, _<_}
+use Prim.Native.Nat.{ℕ, suc, ◌+◌, ◌-◌, ◌^◌, ◌≤◌, ◌<◌}
 use native.Mathlib.Nat.{eq-zero-or-pos}
 use native.Mathlib.Numerals.{add-one}
 use native.Mathlib.Omega.{arith}
 use lib.Dec.{leb, eqb}
 use lib.ListN.{length, length-map}
-use borrow.Author.Tests.{leb-true, leb-false, ne-eqb}
-use Rattle·path.specs.Model.{Model, Lists, modelAt}
-use Rattle·path.specs.Refusal.{refusalOf, maxLoss, maxWeight, validPath}
-use Rattle·path.proofs.Order.{valid-parts, ordered-within}
-use Rattle·select.specs.Penalty.{validPenalty, cost}
-use Rattle·select.specs.Select.{selectedFrom, selected, selectChecks, selectOf, entryIs, entryAt}
-use Rattle·select.proofs.Walks.{cost-small, ends, stops, goes-on, select-refused, select-done, Selectable, selectable, accepted}
-use Rattle·models·specs.specs.Entries.{listsIn}
-use Rattle·models·specs.specs.InPlace.{modelIn, walkOf, aboveCosts, walkFrom, walkOn}
-use Rattle·models·specs.specs.declared.Entry.{Entry}
-use Rattle·models·specs.specs.declared.Walk.{Walk}
+use borrow.Author.Tests.{leb-true, leb-false, ne_eqb}
+use Rattle.path.specs.Model.{Model, Lists, model_at}
+use Rattle.path.specs.Refusal.{refusalOf, maxLoss, maxWeight, validPath}
+use Rattle.path.proofs.Order.{valid-parts, ordered-within}
+use Rattle.select.specs.Penalty.{validPenalty, cost}
+use Rattle.select.specs.Select.{selectedFrom, selected, selectChecks, selectOf, entryIs, entry_at}
+use Rattle.select.proofs.Walks.{cost-small, ends, stops, goes_on, select-refused, select-done, Selectable, selectable, accepted}
+use Rattle.models.specs.Entries.{listsIn}
+use Rattle.models.specs.InPlace.{modelIn, walk_of, aboveCosts, walkFrom, walkOn}
+use Rattle.models.specs.declared.Entry.{Entry}
+use Rattle.models.specs.declared.Walk.{Walk}
 
 module _ (t : Lists) (n p q : ℕ) where
   -- Before the first entry of a selection that is accepted.
   pub record Before (w : Walk) : Type 0 where
     pub ok : Selectable t n p q
-    pub next : w .next ≡ 0
-    pub end : w .end ≡ n
-    pub cost-is : w .cost ≡ aboveCosts
+    pub next : w.next ≡ 0
+    pub end : w.end ≡ n
+    pub cost-is : w.cost ≡ aboveCosts
 
   -- At entry i, from which the walk ends where the whole walk does.
   pub record Stands (w : Walk) : Type 0 where
     pub ok : Selectable t n p q
     pub i : ℕ
-    pub next : w .next ≡ suc i
-    pub end : w .end ≡ n
+    pub next : w.next ≡ suc i
+    pub end : w.end ≡ n
     pub inside : i < n
-    pub cost-is : w .cost ≡ cost p q (modelAt t i)
-    pub found : w .found ≡ entryAt t i
+    pub cost-is : w.cost ≡ cost p q (model_at t i)
+    pub found : w.found ≡ entry_at t i
     pub goes : selectedFrom t p q i (n - suc i) ≡ selected t n p q
 
   -- It has the answer.
   pub record Over (w : Walk) : Type 0 where
-    pub none : w .end ≤ w .next
-    pub found : w .found ≡ selectOf t n p q
+    pub none : w.end ≤ w.next
+    pub found : w.found ≡ selectOf t n p q
 
   -- What a walk has come to.
   abbrev pub Walking : Walk → Type 0
   Walking w = Before w ⊎ (Stands w ⊎ Over w)
 
-  done-at : Selectable t n p q → (i : ℕ) → selected t n p q ≡ i → entryAt t i ≡ selectOf t n p q
-  done-at ok i e = select-done t n p q (accepted t n p q ok) i (sym e)
+  done_at : Selectable t n p q → (i : ℕ) → selected t n p q ≡ i → entry_at t i ≡ selectOf t n p q
+  done_at ok i e = select-done t n p q (accepted t n p q ok) i (sym e)
 
-  pub walk-start : Walking (walkFrom (validPath t n) n p q)
-  walk-start = ⊎-elim begun over (eq-zero-or-pos c)
+  pub walk_start : Walking (walkFrom (validPath t n) n p q)
+  walk_start = ⊎_elim begun over (eq-zero-or-pos c)
     where
       c : ℕ
       c = refusalOf (selectChecks t n p q)
@@ -64,115 +64,115 @@ module _ (t : Lists) (n p q : ℕ) where
       over : 0 < c → Walking (walkFrom (validPath t n) n p q)
       over h =
           let ne : c ≡ 0 → ⊥ = λ z. omega arith in
-          let z : cond (eqb c 0) n 0 ≡ 0 = ap (λ (b : Bool). cond b n 0) (ne-eqb c 0 ne) in
+          let z : cond (eqb c 0) n 0 ≡ 0 = ap (λ (b : Bool). cond b n 0) (ne_eqb c 0 ne) in
           inr (inr (record { none = omega (arith, z); found = select-refused t n p q c refl ne }))
 
   -- A walk that is not over is at an accepted selection, and ends after n entries.
-  pub walk-open : (w : Walk) → Walking w → w .next < w .end → Selectable t n p q × (w .end ≡ n)
-  walk-open w (inl h) less = (h .ok, h .end)
-  walk-open w (inr (inl h)) less = (h .ok, h .end)
-  walk-open w (inr (inr h)) less = absurd (impossible (h .none))
+  pub walk-open : (w : Walk) → Walking w → w.next < w.end → Selectable t n p q × (w.end ≡ n)
+  walk-open w (inl h) less = (h.ok, h.end)
+  walk-open w (inr (inl h)) less = (h.ok, h.end)
+  walk-open w (inr (inr h)) less = absurd (impossible h.none)
     where
-      impossible : w .end ≤ w .next → ⊥
+      impossible : w.end ≤ w.next → ⊥
       impossible g = omega arith
 
   -- The walk at the entry that is next.
-  module _ (w : Walk) (e : Entry) (is : modelAt t (w .next) ≡ modelIn e) (less : w .next < w .end) where
+  module _ (w : Walk) (e : Entry) (is : model_at t w.next ≡ modelIn e) (less : w.next < w.end) where
     abbrev price : ℕ
     price = cost p q (modelIn e)
 
     -- What the step asks.
-    pub walk-asks : Walking w → (w .next < w .end) × (validPenalty p q ≡ true) × (e .loss ≤ maxLoss) × (e .weight ≤ maxWeight)
+    pub walk-asks : Walking w → (w.next < w.end) × (validPenalty p q ≡ true) × (e.loss ≤ maxLoss) × (e.weight ≤ maxWeight)
     walk-asks h =
         let ok = walk-open w h less in
-        let a = ordered-within t n (w .next) (valid-parts t n (ok .0 .valid) .order) (omega (arith, ok .1, less)) in
-        (less, ok .0 .penalty, subst (λ (m : Model). m .loss ≤ maxLoss) is (a .low), subst (λ (m : Model). m .weight ≤ maxWeight) is (a .light))
+        let a = ordered-within t n w.next (valid-parts t n ok.0.valid).order (omega (arith, ok.1, less)) in
+        (less, ok.0.penalty, subst (λ (m : Model). m.loss ≤ maxLoss) is a.low, subst (λ (m : Model). m.weight ≤ maxWeight) is a.light)
 
     abbrev stopped : Walk
-    stopped = walkOf (w .found) (w .next) (w .next) (w .cost)
+    stopped = walk_of w.found w.next w.next w.cost
 
     abbrev moved : Walk
-    moved = walkOf (entryIs (w .next) (modelIn e)) (w .next + 1) (w .end) price
+    moved = walk_of (entryIs w.next (modelIn e)) (w.next + 1) w.end price
 
-    at-next : (j : ℕ) → w .next ≡ j → modelIn e ≡ modelAt t j
-    at-next j h = sym is ∙ ap (modelAt t) h
+    at_next : (j : ℕ) → w.next ≡ j → modelIn e ≡ model_at t j
+    at_next j h = sym is ∙ ap (model_at t) h
 
-    price-at : (j : ℕ) → w .next ≡ j → price ≡ cost p q (modelAt t j)
-    price-at j h = ap (cost p q) (at-next j h)
+    price-at : (j : ℕ) → w.next ≡ j → price ≡ cost p q (model_at t j)
+    price-at j h = ap (cost p q) (at_next j h)
 
-    found-at : (j : ℕ) → w .next ≡ j → entryIs (w .next) (modelIn e) ≡ entryAt t j
-    found-at j h = ap (λ (i : ℕ). entryIs i (modelIn e)) h ∙ ap (entryIs j) (at-next j h)
+    found_at : (j : ℕ) → w.next ≡ j → entryIs w.next (modelIn e) ≡ entry_at t j
+    found_at j h = ap (λ (i : ℕ). entryIs i (modelIn e)) h ∙ ap (entryIs j) (at_next j h)
 
-    before-on : Before w → (b : Bool) → leb (w .cost) price ≡ b → Walking (cond b stopped moved)
-    before-on h true g =
+    before_on : Before w → (b : Bool) → leb w.cost price ≡ b → Walking (cond b stopped moved)
+    before_on h true g =
         let a = walk-asks (inl h) in
-        absurd (impossible (leb-true _ _ g) (h .cost-is) (cost-small p q (e .loss) (e .weight) (a .1) (a .2) (a .3)))
+        absurd (impossible (leb-true _ _ g) h.cost-is (cost-small p q e.loss e.weight a.1 a.2 a.3))
       where
-        impossible : w .cost ≤ price → w .cost ≡ aboveCosts → price < 2 ^ 61 → ⊥
+        impossible : w.cost ≤ price → w.cost ≡ aboveCosts → price < 2 ^ 61 → ⊥
         impossible a b c = omega arith
-    before-on h false g =
+    before_on h false g =
         inr (inl (record {
-          ok = h .ok;
+          ok = h.ok;
           i = 0;
-          next = ap (λ (j : ℕ). j + 1) (h .next);
-          end = h .end;
-          inside = omega (arith, h .ok .some);
-          cost-is = price-at 0 (h .next);
-          found = found-at 0 (h .next);
+          next = ap (λ (j : ℕ). j + 1) h.next;
+          end = h.end;
+          inside = omega (arith, h.ok.some);
+          cost-is = price-at 0 h.next;
+          found = found_at 0 h.next;
           goes = refl;
         }))
 
-    stands-on : Stands w → (b : Bool) → leb (w .cost) price ≡ b → Walking (cond b stopped moved)
-    stands-on h true g =
-        let i = h .i in
-        let next : w .next ≡ i + 1 = h .next ∙ sym (add-one i) in
-        let dear : cost p q (modelAt t i) ≤ cost p q (modelAt t (i + 1)) = rw (← (h .cost-is), ← (price-at (i + 1) next)) (leb-true _ _ g) in
-        let stop = stops t p q i (n - suc i) (omega (arith, h .next, h .end, less)) dear in
-        inr (inr (record { none = omega arith; found = h .found ∙ done-at (h .ok) i (sym (h .goes) ∙ stop) }))
-    stands-on h false g =
-        let i = h .i in
-        let next : w .next ≡ i + 1 = h .next ∙ sym (add-one i) in
-        let cheap : cost p q (modelAt t (i + 1)) < cost p q (modelAt t i) = rw (← (h .cost-is), ← (price-at (i + 1) next)) (leb-false _ _ g) in
-        let on = goes-on t p q i (n - suc i) (n - suc (i + 1)) (omega (arith, h .next, h .end, less)) cheap in
+    stands_on : Stands w → (b : Bool) → leb w.cost price ≡ b → Walking (cond b stopped moved)
+    stands_on h true g =
+        let i = h.i in
+        let next : w.next ≡ i + 1 = h.next ∙ sym (add-one i) in
+        let dear : cost p q (model_at t i) ≤ cost p q (model_at t (i + 1)) = rw (← h.cost-is, ← (price-at (i + 1) next)) (leb-true _ _ g) in
+        let stop = stops t p q i (n - suc i) (omega (arith, h.next, h.end, less)) dear in
+        inr (inr (record { none = omega arith; found = h.found ∙ done_at h.ok i (sym h.goes ∙ stop) }))
+    stands_on h false g =
+        let i = h.i in
+        let next : w.next ≡ i + 1 = h.next ∙ sym (add-one i) in
+        let cheap : cost p q (model_at t (i + 1)) < cost p q (model_at t i) = rw (← h.cost-is, ← (price-at (i + 1) next)) (leb-false _ _ g) in
+        let on = goes_on t p q i (n - suc i) (n - suc (i + 1)) (omega (arith, h.next, h.end, less)) cheap in
         inr (inl (record {
-          ok = h .ok;
+          ok = h.ok;
           i = i + 1;
-          next = omega (arith, h .next);
-          end = h .end;
-          inside = omega (arith, h .next, h .end, less);
+          next = omega (arith, h.next);
+          end = h.end;
+          inside = omega (arith, h.next, h.end, less);
           cost-is = price-at (i + 1) next;
-          found = found-at (i + 1) next;
-          goes = sym on ∙ h .goes;
+          found = found_at (i + 1) next;
+          goes = sym on ∙ h.goes;
         }))
 
     pub walk-on : Walking w → Walking (walkOn w e p q)
-    walk-on (inl h) = before-on h (leb (w .cost) price) refl
-    walk-on (inr (inl h)) = stands-on h (leb (w .cost) price) refl
-    walk-on (inr (inr h)) = absurd (impossible (h .none))
+    walk-on (inl h) = before_on h (leb w.cost price) refl
+    walk-on (inr (inl h)) = stands_on h (leb w.cost price) refl
+    walk-on (inr (inr h)) = absurd (impossible h.none)
       where
-        impossible : w .end ≤ w .next → ⊥
+        impossible : w.end ≤ w.next → ⊥
         impossible g = omega arith
 
     -- It leaves fewer entries.
-    pub walk-less : walkOn w e p q .end - walkOn w e p q .next < w .end - w .next
-    walk-less = by-test (leb (w .cost) price)
+    pub walk-less : (walkOn w e p q).end - (walkOn w e p q).next < w.end - w.next
+    walk-less = by-test (leb w.cost price)
       where
-        by-test : (b : Bool) → cond b stopped moved .end - cond b stopped moved .next < w .end - w .next
+        by-test : (b : Bool) → (cond b stopped moved).end - (cond b stopped moved).next < w.end - w.next
         by-test true = omega arith
         by-test false = omega arith
 
-  pub walk-ends : (w : Walk) → w .end ≤ w .next → Walking w → w .found ≡ selectOf t n p q
-  walk-ends w none (inl h) = absurd (impossible (h .ok .some) (h .next) (h .end))
+  pub walk_ends : (w : Walk) → w.end ≤ w.next → Walking w → w.found ≡ selectOf t n p q
+  walk_ends w none (inl h) = absurd (impossible h.ok.some h.next h.end)
     where
-      impossible : 1 ≤ n → w .next ≡ 0 → w .end ≡ n → ⊥
+      impossible : 1 ≤ n → w.next ≡ 0 → w.end ≡ n → ⊥
       impossible a b c = omega arith
-  walk-ends w none (inr (inl h)) =
-      h .found ∙ done-at (h .ok) (h .i) (sym (h .goes) ∙ ends t p q (h .i) (n - suc (h .i)) (omega (arith, h .next, h .end, none)))
-  walk-ends w none (inr (inr h)) = h .found
+  walk_ends w none (inr (inl h)) =
+      h.found ∙ done_at h.ok h.i (sym h.goes ∙ ends t p q h.i (n - suc h.i) (omega (arith, h.next, h.end, none)))
+  walk_ends w none (inr (inr h)) = h.found
 
 -- The entry that is next is one of the list's.
-pub walk-there : (ys : List Entry) (n p q : ℕ) (w : Walk) → Walking (listsIn ys) n p q w → w .next < w .end → w .next < length ys
+pub walk-there : (ys : List Entry) (n p q : ℕ) (w : Walk) → Walking (listsIn ys) n p q w → w.next < w.end → w.next < length ys
 walk-there ys n p q w h less =
     let ok = walk-open (listsIn ys) n p q w h less in
-    let places = valid-parts (listsIn ys) n (ok .0 .valid) .places in
-    omega (arith, less, ok .1, places .in-sizes, length-map ys (λ (e : Entry). e .size))
+    let places = (valid-parts (listsIn ys) n ok.0.valid).places in
+    omega (arith, less, ok.1, places.in-sizes, length-map ys (λ (e : Entry). e.size))

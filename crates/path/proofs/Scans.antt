@@ -1,25 +1,25 @@
 -- The scan of a path in lists of losses and weights, a turn at a time. The first i entries keep what the whole path keeps, and the tests
 -- made so far with those still to come are the path's.
-use mathlib.Core.Path.{_≡_, refl, ap, sym, _∙_}
+use mathlib.Core.Path.{◌≡◌, refl, ap, sym, ◌∙◌}
 use mathlib.Core.Bool.{Bool, true, false}
-use mathlib.Core.List.{List, [], _∷_}
-use Prim.Native.Nat.{ℕ, zero, suc, _+_, _-_, _≤_, _<_}
+use mathlib.Core.List.{List, [], ◌∷◌}
+use Prim.Native.Nat.{ℕ, zero, suc, ◌+◌, ◌-◌, ◌≤◌, ◌<◌}
 use native.Mathlib.Omega.{arith}
 use lib.Dec.{eqb}
-use lib.ListN.{length, getD}
-use Rattle·path·specs.specs.Model.{Model, model, Lists, lists, modelAt, pathOf}
-use Rattle·path·specs.specs.Update.{below, breakpoint, holds, kept, testsMade, passedOver}
-use Rattle·path·specs.specs.Inner.{Comparable, Scannable, PassesOver, TestsLast, tallyOf, keptOf}
-use Rattle·path·specs.specs.declared.Kept.{Kept}
-use Rattle·path·specs.specs.declared.tally.Tally.{Tally}
-use Rattle·path·proofs.proofs.Paths.{keeps-all, drops-last, first-holds, first-not-dropped, later-holds}
+use lib.ListN.{length, get_or}
+use Rattle.path.specs.Model.{Model, model, Lists, lists, model_at, pathOf}
+use Rattle.path.specs.Update.{below, breakpoint, holds, kept, testsMade, passedOver}
+use Rattle.path.specs.Inner.{Comparable, Scannable, PassesOver, TestsLast, tally_of, keptOf}
+use Rattle.path.specs.declared.Kept.{Kept}
+use Rattle.path.specs.declared.tally.Tally.{Tally}
+use Rattle.path.proofs.Paths.{keeps-all, drops-last, first_holds, first-not-dropped, later-holds}
 
 -- After an empty path nothing is passed over, and else the last loss decides.
-pub none-passed : (losses : List ℕ) (n loss : ℕ) → n ≡ 0 → PassesOver losses n loss false
+pub none_passed : (losses : List ℕ) (n loss : ℕ) → n ≡ 0 → PassesOver losses n loss false
 unfolding pathOf passedOver
-none-passed losses n loss e s w k v = rw e
+none_passed losses n loss e s w k v = rw e
 
-pub passed-by-last : (losses : List ℕ) (n b loss : ℕ) → n ≡ suc b → PassesOver losses n loss (eqb loss (getD losses b 0))
+pub passed-by-last : (losses : List ℕ) (n b loss : ℕ) → n ≡ suc b → PassesOver losses n loss (eqb loss (get_or losses b 0))
 unfolding pathOf passedOver
 passed-by-last losses n b loss e s w k v = rw e
 
@@ -40,12 +40,12 @@ module _ (losses weights : List ℕ) (n loss weight start : ℕ) where
     -- What the test at the last of them asks for.
     pub scan-asks : Scannable losses weights n loss weight start → (1 ≤ i) × Scannable losses weights i loss weight tests
     scan-asks h = (
-      at .some,
+      at.some,
       record {
-        in-losses = omega (arith, h .in-losses, at .within);
-        in-weights = omega (arith, h .in-weights, at .within);
-        countable = omega (arith, h .countable, at .counted);
-        near = λ j p. h .near j (omega (arith, at .within));
+        in-losses = omega (arith, h.in-losses, at.within);
+        in-weights = omega (arith, h.in-weights, at.within);
+        countable = omega (arith, h.countable, at.counted);
+        near = λ j p. h.near j (omega (arith, at.within));
       },
     )
 
@@ -53,62 +53,62 @@ module _ (losses weights : List ℕ) (n loss weight start : ℕ) where
       -- Where it fails, the scan goes on.
       pub scan-on : r ≡ false → (more : ℕ) → more ≡ tests + 1 → Scanned losses weights n loss weight start (i - 1) more
       scan-on f more e =
-          let fails : (s : List ℕ) (k : ℕ) → holds (pathOf (lists s losses weights) (i - 1)) (modelAt (lists s losses weights) (i - 1)) (model k loss weight) ≡ false = λ s k. sym (tested s k) ∙ f in
+          let fails : (s : List ℕ) (k : ℕ) → holds (pathOf (lists s losses weights) (i - 1)) (model_at (lists s losses weights) (i - 1)) (model k loss weight) ≡ false = λ s k. sym (tested s k) ∙ f in
           let two = first-not-dropped (lists [] losses weights) (model 0 loss weight) (i - 1) (fails [] 0) in
           record {
             some = two;
-            within = omega (arith, at .within);
-            counted = omega (arith, at .counted, at .some);
+            within = omega (arith, at.within);
+            counted = omega (arith, at.counted, at.some);
             keeps = λ s k.
-                let g = drops-last (lists s losses weights) (model k loss weight) i (i - 1) (omega (arith, at .some)) (fails s k) in
-                (sym (ap length (g .0)) ∙ at .keeps s k .0, omega (arith, g .1, at .keeps s k .1));
+                let g = drops-last (lists s losses weights) (model k loss weight) i (i - 1) (omega (arith, at.some)) (fails s k) in
+                (sym (ap length g.0) ∙ (at.keeps s k).0, omega (arith, g.1, (at.keeps s k).1));
           }
 
       -- Where it holds, these entries stay.
-      pub scan-ends : r ≡ true → (t : Tally) → t ≡ tallyOf (tests + 1) → (s : List ℕ) (k : ℕ)
+      pub scan-ends : r ≡ true → (t : Tally) → t ≡ tally_of (tests + 1) → (s : List ℕ) (k : ℕ)
           → record { entries = i; tests = t } ≡ keptOf (pathOf (lists s losses weights) n) (model k loss weight) start
       scan-ends h t e s k =
           let u = lists s losses weights in
           let m = model k loss weight in
-          let g = keeps-all u m i (i - 1) (omega (arith, at .some)) (sym (tested s k) ∙ h) in
-          let stay : i ≡ length (kept (pathOf u n) m) = omega (arith, g .0, at .keeps s k .0) in
-          let all : tests + 1 ≡ start + testsMade (pathOf u n) m = omega (arith, g .1, at .keeps s k .1) in
-          let made : t ≡ tallyOf (start + testsMade (pathOf u n) m) = e ∙ ap tallyOf all in
+          let g = keeps-all u m i (i - 1) (omega (arith, at.some)) (sym (tested s k) ∙ h) in
+          let stay : i ≡ length (kept (pathOf u n) m) = omega (arith, g.0, (at.keeps s k).0) in
+          let all : tests + 1 ≡ start + testsMade (pathOf u n) m = omega (arith, g.1, (at.keeps s k).1) in
+          let made : t ≡ tally_of (start + testsMade (pathOf u n) m) = e ∙ ap tally_of all in
           λ j. record { entries = stay j; tests = made j }
 
 -- The test at a first entry goes by no other.
 pub tests-first : (losses weights : List ℕ) (n l w loss weight : ℕ) (r : Bool) → n ≡ 0 → TestsLast (l ∷ []) (w ∷ []) 0 loss weight r → TestsLast losses weights n loss weight r
 tests-first losses weights n l w loss weight r e tested s k =
     tested s k
-    ∙ first-holds (lists s (l ∷ []) (w ∷ [])) (modelAt (lists s (l ∷ []) (w ∷ [])) 0) (model k loss weight) refl
-    ∙ sym (first-holds (lists s losses weights) (modelAt (lists s losses weights) n) (model k loss weight) e)
+    ∙ first_holds (lists s (l ∷ []) (w ∷ [])) (model_at (lists s (l ∷ []) (w ∷ [])) 0) (model k loss weight) refl
+    ∙ sym (first_holds (lists s losses weights) (model_at (lists s losses weights) n) (model k loss weight) e)
 
 -- The test at a later entry n goes by it and by the one before, a, whose losses and weights may stand in lists of two.
 module _ (losses weights : List ℕ) (a n : ℕ) (e : n ≡ suc a) (l₀ l₁ w₀ w₁ : ℕ)
-    (l₀-is : l₀ ≡ getD losses a 0) (l₁-is : l₁ ≡ getD losses n 0) (w₀-is : w₀ ≡ getD weights a 0) (w₁-is : w₁ ≡ getD weights n 0) (loss weight : ℕ) where
+    (l₀-is : l₀ ≡ get_or losses a 0) (l₁-is : l₁ ≡ get_or losses n 0) (w₀-is : w₀ ≡ get_or weights a 0) (w₁-is : w₁ ≡ get_or weights n 0) (loss weight : ℕ) where
   pub tests-later : (r : Bool) → TestsLast (l₀ ∷ l₁ ∷ []) (w₀ ∷ w₁ ∷ []) 1 loss weight r → TestsLast losses weights n loss weight r
   tests-later r tested s k =
       let t = lists s losses weights in
       let m = model k loss weight in
-      let two = lists (getD s a 0 ∷ getD s n 0 ∷ []) (l₀ ∷ l₁ ∷ []) (w₀ ∷ w₁ ∷ []) in
-      let first : modelAt two 0 ≡ modelAt t a = λ i. model (getD s a 0) (l₀-is i) (w₀-is i) in
-      let second : modelAt two 1 ≡ modelAt t n = λ i. model (getD s n 0) (l₁-is i) (w₁-is i) in
-      tested (getD s a 0 ∷ getD s n 0 ∷ []) k
-      ∙ later-holds two (modelAt two 1) m 1 0 refl
+      let two = lists (get_or s a 0 ∷ get_or s n 0 ∷ []) (l₀ ∷ l₁ ∷ []) (w₀ ∷ w₁ ∷ []) in
+      let first : model_at two 0 ≡ model_at t a = λ i. model (get_or s a 0) (l₀-is i) (w₀-is i) in
+      let second : model_at two 1 ≡ model_at t n = λ i. model (get_or s n 0) (l₁-is i) (w₁-is i) in
+      tested (get_or s a 0 ∷ get_or s n 0 ∷ []) k
+      ∙ later-holds two (model_at two 1) m 1 0 refl
       ∙ (λ i. below (breakpoint (second i) m) (breakpoint (first i) (second i)))
-      ∙ sym (later-holds t (modelAt t n) m n a e)
+      ∙ sym (later-holds t (model_at t n) m n a e)
 
   pub two-scannable : (tests : ℕ) → Scannable losses weights (suc n) loss weight tests → Scannable (l₀ ∷ l₁ ∷ []) (w₀ ∷ w₁ ∷ []) 2 loss weight tests
   two-scannable tests h =
-      let near : Comparable (getD losses a 0) (getD weights a 0) (getD losses (suc a) 0) (getD weights (suc a) 0) loss weight = h .near a (omega arith) in
-      let at-n : Comparable (getD losses a 0) (getD weights a 0) (getD losses n 0) (getD weights n 0) loss weight = rw e near in
+      let near : Comparable (get_or losses a 0) (get_or weights a 0) (get_or losses (suc a) 0) (get_or weights (suc a) 0) loss weight = h.near a (omega arith) in
+      let at_n : Comparable (get_or losses a 0) (get_or weights a 0) (get_or losses n 0) (get_or weights n 0) loss weight = rw e near in
       record {
         in-losses = omega arith;
         in-weights = omega arith;
-        countable = omega (arith, h .countable);
-        near = λ i p. by-place i p (rw (l₀-is, l₁-is, w₀-is, w₁-is) at-n);
+        countable = omega (arith, h.countable);
+        near = λ i p. by_place i p (rw (l₀-is, l₁-is, w₀-is, w₁-is) at_n);
       }
     where
-      by-place : (i : ℕ) → suc i < 2 → Comparable l₀ w₀ l₁ w₁ loss weight → Comparable (getD (l₀ ∷ l₁ ∷ []) i 0) (getD (w₀ ∷ w₁ ∷ []) i 0) (getD (l₀ ∷ l₁ ∷ []) (suc i) 0) (getD (w₀ ∷ w₁ ∷ []) (suc i) 0) loss weight
-      by-place zero p c = c
-      by-place (suc i) p c = absurd (omega arith)
+      by_place : (i : ℕ) → suc i < 2 → Comparable l₀ w₀ l₁ w₁ loss weight → Comparable (get_or (l₀ ∷ l₁ ∷ []) i 0) (get_or (w₀ ∷ w₁ ∷ []) i 0) (get_or (l₀ ∷ l₁ ∷ []) (suc i) 0) (get_or (w₀ ∷ w₁ ∷ []) (suc i) 0) loss weight
+      by_place zero p c = c
+      by_place (suc i) p c = absurd (omega arith)

@@ -1,37 +1,37 @@
 -- The order check, which goes from the last entry back. It asks for the range of the last entry and of the first alone, because an entry
 -- in order between them has a smaller size and weight than the last one, a smaller loss than the first, and neither size nor weight is 0.
-use mathlib.Core.Path.{_≡_, refl, ap, sym, _∙_}
-use mathlib.Core.Bool.{Bool, true, false, _&&_}
-use Prim.Native.Nat.{ℕ, zero, suc, _≤_, _<_}
+use mathlib.Core.Path.{◌≡◌, refl, ap, sym, ◌∙◌}
+use mathlib.Core.Bool.{Bool, true, false, ◌&&◌}
+use Prim.Native.Nat.{ℕ, zero, suc, ◌≤◌, ◌<◌}
 use native.Mathlib.Omega.{arith}
 use borrow.Author.Tests.{le-leb}
-use Rattle·path·specs.specs.Model.{Model, Lists, modelAt, pathOf}
-use Rattle·path·specs.specs.Refusal.{maxSize, maxWeight, inRange, follows, ordered}
-use Rattle·path·proofs.proofs.Order.{Within, within, Before, follows-before, last-in-range}
+use Rattle.path.specs.Model.{Model, Lists, model_at, pathOf}
+use Rattle.path.specs.Refusal.{maxSize, maxWeight, in_range, follows, ordered}
+use Rattle.path.proofs.Order.{Within, within, Before, follows-before, last-in-range}
 
 -- What bounds the entries before a model.
 pub record Small (m : Model) : Type 0 where
-  pub size : m .size ≤ maxSize
-  pub weight : m .weight ≤ maxWeight
+  pub size : m.size ≤ maxSize
+  pub weight : m.weight ≤ maxWeight
 
-in-range-small : (m : Model) → inRange m ≡ true → Small m
-in-range-small m h = let w = within m h in record { size = w .small; weight = w .light }
+in-range-small : (m : Model) → in_range m ≡ true → Small m
+in-range-small m h = let w = within m h in record { size = w.small; weight = w.light }
 
-pub before-small : {d e : Model} → Before d e → Small e → Small d
-before-small b s = record { size = omega (arith, b .sizes, s .size); weight = omega (arith, b .weights, s .weight) }
+pub before_small : {d e : Model} → Before d e → Small e → Small d
+before_small b s = record { size = omega (arith, b.sizes, s.size); weight = omega (arith, b.weights, s.weight) }
 
-whole-range : (m : Model) → Within m → inRange m ≡ true
-whole-range m w = rw (le-leb _ _ (w .positive), le-leb _ _ (w .small), le-leb _ _ (w .low), le-leb _ _ (w .weighs), le-leb _ _ (w .light))
+whole-range : (m : Model) → Within m → in_range m ≡ true
+whole-range m w = rw (le-leb _ _ w.positive, le-leb _ _ w.small, le-leb _ _ w.low, le-leb _ _ w.weighs, le-leb _ _ w.light)
 
 -- An entry of bounded size and weight is in range where one before it is.
-range-after : (d e : Model) → inRange d ≡ true → Before d e → Small e → inRange e ≡ true
+range-after : (d e : Model) → in_range d ≡ true → Before d e → Small e → in_range e ≡ true
 range-after d e h b s =
     whole-range e (record {
-      positive = omega (arith, b .sizes);
-      small = s .size;
-      low = omega (arith, b .losses, within d h .low);
-      weighs = omega (arith, b .weights);
-      light = s .weight;
+      positive = omega (arith, b.sizes);
+      small = s.size;
+      low = omega (arith, b.losses, (within d h).low);
+      weighs = omega (arith, b.weights);
+      light = s.weight;
     })
 
 -- A path of no entry.
@@ -39,16 +39,16 @@ pub ordered-none : (t : Lists) {n : ℕ} → n ≡ 0 → ordered (pathOf t n) �
 unfolding pathOf ordered
 ordered-none t e = rw e
 
-pub ordered-one : (t : Lists) {at : ℕ} → at ≡ 0 → ordered (pathOf t (suc at)) ≡ inRange (modelAt t 0)
+pub ordered-one : (t : Lists) {at : ℕ} → at ≡ 0 → ordered (pathOf t (suc at)) ≡ in_range (model_at t 0)
 unfolding pathOf ordered
 ordered-one t e = rw e
 
-pub last-fails : (t : Lists) (n : ℕ) → inRange (modelAt t n) ≡ false → ordered (pathOf t (suc n)) ≡ false
+pub last-fails : (t : Lists) (n : ℕ) → in_range (model_at t n) ≡ false → ordered (pathOf t (suc n)) ≡ false
 unfolding pathOf ordered
 last-fails t zero h = h
-last-fails t (suc n) h = ap (λ (x : Bool). x && follows (modelAt t n) (modelAt t (suc n)) && ordered (pathOf t (suc n))) h
+last-fails t (suc n) h = ap (λ (x : Bool). x && follows (model_at t n) (model_at t (suc n)) && ordered (pathOf t (suc n))) h
 
-ordered-turn : (t : Lists) (a : ℕ) → ordered (pathOf t (suc (suc a))) ≡ (inRange (modelAt t (suc a)) && follows (modelAt t a) (modelAt t (suc a)) && ordered (pathOf t (suc a)))
+ordered-turn : (t : Lists) (a : ℕ) → ordered (pathOf t (suc (suc a))) ≡ (in_range (model_at t (suc a)) && follows (model_at t a) (model_at t (suc a)) && ordered (pathOf t (suc a)))
 unfolding pathOf ordered
 ordered-turn t a = refl
 
@@ -63,50 +63,50 @@ fails-after false y = refl
 
 -- One turn, at entry b, which comes after entry a.
 module _ (t : Lists) (a b : ℕ) (e : b ≡ suc a) where
-  ordered-at : ordered (pathOf t (suc b)) ≡ (inRange (modelAt t b) && follows (modelAt t a) (modelAt t b) && ordered (pathOf t b))
-  ordered-at = rw e (ordered-turn t a)
+  ordered_at : ordered (pathOf t (suc b)) ≡ (in_range (model_at t b) && follows (model_at t a) (model_at t b) && ordered (pathOf t b))
+  ordered_at = rw e (ordered-turn t a)
 
-  pub order-fails : follows (modelAt t a) (modelAt t b) ≡ false → ordered (pathOf t (suc b)) ≡ false
-  order-fails h = rw (ordered-at, h) (fails-between (inRange (modelAt t b)) (ordered (pathOf t b)))
+  pub order-fails : follows (model_at t a) (model_at t b) ≡ false → ordered (pathOf t (suc b)) ≡ false
+  order-fails h = rw (ordered_at, h) (fails-between (in_range (model_at t b)) (ordered (pathOf t b)))
 
   -- Where the two are in order, it goes by the entries up to a.
-  pub entry-passes : follows (modelAt t a) (modelAt t b) ≡ true → Small (modelAt t b) → ordered (pathOf t (suc b)) ≡ ordered (pathOf t (suc a))
+  pub entry-passes : follows (model_at t a) (model_at t b) ≡ true → Small (model_at t b) → ordered (pathOf t (suc b)) ≡ ordered (pathOf t (suc a))
   entry-passes h s = by-test (ordered (pathOf t (suc a))) refl
     where
       by-test : (o : Bool) → ordered (pathOf t (suc a)) ≡ o → ordered (pathOf t (suc b)) ≡ o
       by-test true g =
-          let r = range-after (modelAt t a) (modelAt t b) (last-in-range t a g) (follows-before (modelAt t a) (modelAt t b) h) s in
-          rw (ordered-at, r, h, e) g
-      by-test false g = rw (ordered-at, e, g) (fails-after (inRange (modelAt t (suc a))) (follows (modelAt t a) (modelAt t (suc a))))
+          let r = range-after (model_at t a) (model_at t b) (last-in-range t a g) (follows-before (model_at t a) (model_at t b) h) s in
+          rw (ordered_at, r, h, e) g
+      by-test false g = rw (ordered_at, e, g) (fails-after (in_range (model_at t (suc a))) (follows (model_at t a) (model_at t (suc a))))
 
 -- The check of n entries has come to entry `at`: the entries up to it are ordered just where all are, and its size and weight are small.
 pub record Reached (t : Lists) (n at : ℕ) : Type 0 where
   pub inside : at < n
   pub same : ordered (pathOf t (suc at)) ≡ ordered (pathOf t n)
-  pub small : Small (modelAt t at)
+  pub small : Small (model_at t at)
 
 -- It begins at the last entry, and fails where that is out of range.
 module _ (t : Lists) (n last : ℕ) (e : n ≡ suc last) where
-  pub range-fails : inRange (modelAt t last) ≡ false → ordered (pathOf t n) ≡ false
+  pub range-fails : in_range (model_at t last) ≡ false → ordered (pathOf t n) ≡ false
   range-fails h = rw e (last-fails t last h)
 
-  pub reached-last : inRange (modelAt t last) ≡ true → Reached t n last
-  reached-last h = record { inside = omega arith; same = rw e; small = in-range-small (modelAt t last) h }
+  pub reached-last : in_range (model_at t last) ≡ true → Reached t n last
+  reached-last h = record { inside = omega arith; same = rw e; small = in-range-small (model_at t last) h }
 
 module _ (t : Lists) (n at : ℕ) (r : Reached t n at) where
   -- It goes on to the entry before, and fails where the two are not in order.
   module _ (before : ℕ) (e : at ≡ suc before) where
-    pub neighbours-fail : follows (modelAt t before) (modelAt t at) ≡ false → ordered (pathOf t n) ≡ false
-    neighbours-fail h = sym (r .same) ∙ order-fails t before at e h
+    pub neighbours-fail : follows (model_at t before) (model_at t at) ≡ false → ordered (pathOf t n) ≡ false
+    neighbours-fail h = sym r.same ∙ order-fails t before at e h
 
-    pub reached-before : follows (modelAt t before) (modelAt t at) ≡ true → Reached t n before
+    pub reached-before : follows (model_at t before) (model_at t at) ≡ true → Reached t n before
     reached-before h =
         record {
-          inside = omega (arith, r .inside);
-          same = sym (entry-passes t before at e h (r .small)) ∙ r .same;
-          small = before-small (follows-before (modelAt t before) (modelAt t at) h) (r .small);
+          inside = omega (arith, r.inside);
+          same = sym (entry-passes t before at e h r.small) ∙ r.same;
+          small = before_small (follows-before (model_at t before) (model_at t at) h) r.small;
         }
 
   -- It ends at the first entry.
-  pub reached-first : at ≡ 0 → ordered (pathOf t n) ≡ inRange (modelAt t 0)
-  reached-first e = sym (r .same) ∙ ordered-one t e
+  pub reached-first : at ≡ 0 → ordered (pathOf t n) ≡ in_range (model_at t 0)
+  reached-first e = sym r.same ∙ ordered-one t e

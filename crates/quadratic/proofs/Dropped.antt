@@ -1,21 +1,21 @@
 -- The models that are not passed over, as they move to the front one after the other. Such a model passes its checks against those
 -- before it, because they end in the last entry of the path.
-use mathlib.Core.Path.{_≡_, refl, sym, _∙_}
+use mathlib.Core.Path.{◌≡◌, refl, sym, ◌∙◌}
 use mathlib.Core.Bool.{Bool, true, false, cond}
-use mathlib.Core.List.{List, _∷_}
-use Prim.Native.Nat.{ℕ, zero, suc, _+_, _<_}
+use mathlib.Core.List.{List, ◌∷◌}
+use Prim.Native.Nat.{ℕ, zero, suc, ◌+◌, ◌<◌}
 use native.Mathlib.Numerals.{add-one}
 use native.Mathlib.Omega.{arith}
 use lib.ListN.{take}
-use Rattle·path.specs.Model.{Model, Lists, modelAt, pathOf}
-use Rattle·path.specs.Update.{passedOver, extended, tried}
-use Rattle·path.specs.Refusal.{refusalOf}
-use Rattle·path.specs.Inner.{Held}
-use Rattle·path.proofs.Order.{places-fewer, Passes, model-passes, model-accepted, same-checks, same-passed-over}
-use Rattle·path.proofs.Held.{setModel, held-none, held-skip, held-put}
-use Rattle·build.specs.Build.{built, listChecks}
-use Rattle·build.specs.Inner.{Buildable}
-use Rattle·build.proofs.Lists.{model-ready}
+use Rattle.path.specs.Model.{Model, Lists, model_at, pathOf}
+use Rattle.path.specs.Update.{passedOver, extended, tried}
+use Rattle.path.specs.Refusal.{refusalOf}
+use Rattle.path.specs.Inner.{Held}
+use Rattle.path.proofs.Order.{places-fewer, Passes, model-passes, model-accepted, same-checks, same-passed-over}
+use Rattle.path.proofs.Held.{setModel, held_none, held-skip, held-put}
+use Rattle.build.specs.Build.{built, listChecks}
+use Rattle.build.specs.Inner.{Buildable}
+use Rattle.build.proofs.Lists.{model-ready}
 
 module _ (a : Lists) where
   -- Those of the first i models.
@@ -27,26 +27,26 @@ module _ (a : Lists) where
   unfolding built pathOf tried
   same-last zero = refl
   same-last (suc i) =
-      rw (← same-passed-over (built a i) (triedTo i) (same-last i) (modelAt a i)) (by-test (passedOver (built a i) (modelAt a i)) (same-last i))
+      rw (← same-passed-over (built a i) (triedTo i) (same-last i) (model_at a i)) (by-test (passedOver (built a i) (model_at a i)) (same-last i))
     where
-      by-test : (b : Bool) → take 1 (built a i) ≡ take 1 (triedTo i) → take 1 (cond b (built a i) (extended (built a i) (modelAt a i))) ≡ take 1 (cond b (triedTo i) (modelAt a i ∷ triedTo i))
+      by-test : (b : Bool) → take 1 (built a i) ≡ take 1 (triedTo i) → take 1 (cond b (built a i) (extended (built a i) (model_at a i))) ≡ take 1 (cond b (triedTo i) (model_at a i ∷ triedTo i))
       by-test true h = h
       by-test false h = refl
 
   -- A model of a list without a bad one passes against them.
-  tried-passes : (n i : ℕ) → refusalOf (listChecks a 0 n) ≡ 0 → i < n → Passes (triedTo i) (modelAt a i)
+  tried-passes : (n i : ℕ) → refusalOf (listChecks a 0 n) ≡ 0 → i < n → Passes (triedTo i) (model_at a i)
   tried-passes n i h p =
-      model-passes (triedTo i) (modelAt a i)
-      (sym (same-checks (built a i) (triedTo i) (same-last i) (modelAt a i)) ∙ model-accepted (built a i) (modelAt a i) (model-ready a n i h p .1))
+      model-passes (triedTo i) (model_at a i)
+      (sym (same-checks (built a i) (triedTo i) (same-last i) (model_at a i)) ∙ model-accepted (built a i) (model_at a i) (model-ready a n i h p).1)
 
   pub dropped-none : (t : Lists) → Held (triedTo 0) t t 0 0
   unfolding pathOf tried
-  dropped-none t = held-none t
+  dropped-none t = held_none t
 
   -- One more model is read.
-  module _ (t₀ t : Lists) (n i : ℕ) (h : Held (triedTo i) t₀ t n i) (m : Model) (is : m ≡ modelAt a i) where
-    judged : (b : Bool) → passedOver (pathOf t n) m ≡ b → passedOver (triedTo i) (modelAt a i) ≡ b
-    judged b f = (λ j. passedOver (sym (h .is) j) (sym is j)) ∙ f
+  module _ (t₀ t : Lists) (n i : ℕ) (h : Held (triedTo i) t₀ t n i) (m : Model) (is : m ≡ model_at a i) where
+    judged : (b : Bool) → passedOver (pathOf t n) m ≡ b → passedOver (triedTo i) (model_at a i) ≡ b
+    judged b f = (λ j. passedOver (sym h.is j) (sym is j)) ∙ f
 
     -- It is passed over.
     pub dropped-one : passedOver (pathOf t n) m ≡ true → Held (triedTo (i + 1)) t₀ t n (i + 1)
@@ -58,5 +58,5 @@ module _ (a : Lists) where
     unfolding pathOf tried
     kept-one {all} ok turn f =
         let o = judged false f in
-        let put = held-put (triedTo i) t₀ t n i h (places-fewer t₀ all (i + 1) (ok .fits) (omega arith)) (modelAt a i) (tried-passes all i (ok .good) turn) o in
+        let put = held-put (triedTo i) t₀ t n i h (places-fewer t₀ all (i + 1) ok.fits (omega arith)) (model_at a i) (tried-passes all i ok.good turn) o in
         rw (is, add-one i, o) (rw (add-one i) at put)

@@ -2,18 +2,14 @@
 // every call refuses those, and only those, that a test of all pairs of entries finds out of order.
 
 use crate::models;
-use testing::list::MARK;
-use testing::list::at;
-use testing::list::differences;
-use testing::list::put;
-use testing::number::fault;
-use testing::number::plus;
-use testing::random::next;
-use testing::random::start;
+use testing::list::{MARK, at, differences, put};
+use testing::number::{fault, plus};
+use testing::random::{next, start};
 use testing::search::in_range;
 use testing::text::print;
 
 // What came of some paths.
+#[derive(Drop)]
 struct Counts {
     faults: u64,
     refused: u64,

@@ -1,22 +1,17 @@
 // Random lists: builds by both methods, the same models appended one by one, breakpoints and selections, against what an exhaustive
 // search finds.
 
-use crate::history;
 use crate::history::History;
-use crate::models;
+use crate::{history, models};
 use testing::answer::answer_of;
-use testing::list::MARK;
-use testing::list::at;
-use testing::number::differs;
-use testing::number::fault;
-use testing::number::minus;
-use testing::number::plus;
-use testing::random::next;
-use testing::random::start;
+use testing::list::{MARK, at};
+use testing::number::{differs, fault, minus, plus};
+use testing::random::{next, start};
 use testing::search::cheapest;
 use testing::text::print;
 
 // What was compared.
+#[derive(Drop)]
 struct Totals {
     faults: u64,
     models: u64,

@@ -1,32 +1,32 @@
 -- Weights that are kept one by one: at each step the buffer holds those read so far as `folded` cuts them.
-use mathlib.Core.Path.{_≡_, refl, sym, ap, _∙_}
-use mathlib.Core.Bool.{Bool, true, false, cond, _&&_}
-use mathlib.Core.List.{List, [], _∷_, _++_, append-assoc, append-nil}
-use Prim.Native.Nat.{ℕ, suc, _+_, _≤_, _<_}
+use mathlib.Core.Path.{◌≡◌, refl, sym, ap, ◌∙◌}
+use mathlib.Core.Bool.{Bool, true, false, cond, ◌&&◌}
+use mathlib.Core.List.{List, [], ◌∷◌, ◌++◌, append_assoc, append-nil}
+use Prim.Native.Nat.{ℕ, suc, ◌+◌, ◌≤◌, ◌<◌}
 use native.Mathlib.Numerals.{add-one}
 use native.Mathlib.Omega.{arith}
-use lib.ListN.{length, getD, take, drop, set, length-append, take-append-drop}
-use lib.Seq.{length-take-le, take-take, take-suc, take-suc-set, append-snoc}
-use Rattle·path.specs.Refusal.{weightInRange}
-use Rattle·least.specs.Segmentation.{maxSegments}
-use Rattle·weights.specs.Weights.{allInRange}
-use Rattle·weights.specs.Inner.{folded}
-use Rattle·weights.proofs.Folds.{folded-few, folded-many, folded-onto}
-use Rattle·report·specs.specs.Inner.{KeptFront, WeightKept}
+use lib.ListN.{length, get_or, take, drop, set, length-append, take-append-drop}
+use lib.Seq.{length-take-le, take-take, take-suc, take-suc-set, append_snoc}
+use Rattle.path.specs.Refusal.{weightInRange}
+use Rattle.least.specs.Segmentation.{maxSegments}
+use Rattle.weights.specs.Weights.{allInRange}
+use Rattle.weights.specs.Inner.{folded}
+use Rattle.weights.proofs.Folds.{folded-few, folded-many, folded-onto}
+use Rattle.report.specs.Inner.{KeptFront, WeightKept}
 
 -- Weights of which the last is out of range are cut to the first ones and a 0.
 out-cut : (c : ℕ) (ks ys : List ℕ) (w : ℕ) → length ks ≡ c → weightInRange w ≡ false → folded c (ks ++ (ys ++ (w ∷ []))) ≡ ks ++ (0 ∷ [])
 unfolding allInRange
 out-cut c ks [] w e h = folded-many c ks w [] e ∙ rw h refl
-out-cut c ks (y ∷ ys) w e h = folded-many c ks y (ys ++ (w ∷ [])) e ∙ rw (last-out ys, none (weightInRange y)) refl
+out-cut c ks (y ∷ ys) w e h = folded-many c ks y (ys ++ (w ∷ [])) e ∙ rw (last_out ys, none (weightInRange y)) refl
   where
     none : (b : Bool) → (b && false) ≡ false
     none true = refl
     none false = refl
 
-    last-out : (us : List ℕ) → allInRange (us ++ (w ∷ [])) ≡ false
-    last-out [] = rw h refl
-    last-out (u ∷ us) = rw (last-out us) (none (weightInRange u))
+    last_out : (us : List ℕ) → allInRange (us ++ (w ∷ [])) ≡ false
+    last_out [] = rw h refl
+    last_out (u ∷ us) = rw (last_out us) (none (weightInRange u))
 
 module _ (buffer : List ℕ) (n w : ℕ) (long : maxSegments < length buffer) (k : KeptFront buffer n) where
   stored : n < length buffer → take (n + 1) (set buffer n w) ≡ take n buffer ++ (w ∷ [])
@@ -40,15 +40,15 @@ module _ (buffer : List ℕ) (n w : ℕ) (long : maxSegments < length buffer) (k
       record { few = omega arith; is = stored (omega arith) ∙ sym (folded-few maxSegments (kept ++ (w ∷ [])) few) }
 
   -- It is past them and out of range.
-  pub kept-out : maxSegments ≤ n → weightInRange w ≡ false → WeightKept buffer n w (set buffer maxSegments 0) (maxSegments + 1)
-  kept-out h o =
+  pub kept_out : maxSegments ≤ n → weightInRange w ≡ false → WeightKept buffer n w (set buffer maxSegments 0) (maxSegments + 1)
+  kept_out h o =
       let kept = take n buffer in
       let ks = take maxSegments kept in
       let ys = drop maxSegments kept in
       let same : ks ≡ take maxSegments buffer = take-take maxSegments n buffer h in
       let many : length ks ≡ maxSegments = ap length same ∙ length-take-le maxSegments buffer (omega arith) in
       let parts : kept ++ (w ∷ []) ≡ ks ++ (ys ++ (w ∷ []))
-      = ap (λ (l : List ℕ). l ++ (w ∷ [])) (sym (take-append-drop maxSegments kept)) ∙ append-assoc ks ys (w ∷ []) in
+      = ap (λ (l : List ℕ). l ++ (w ∷ [])) (sym (take-append-drop maxSegments kept)) ∙ append_assoc ks ys (w ∷ []) in
       record {
         few = omega arith;
         is = take-suc-set buffer maxSegments 0 long ∙ rw (sym same) (sym (ap (folded maxSegments) parts ∙ out-cut maxSegments ks ys w many o));
@@ -63,38 +63,38 @@ module _ (buffer : List ℕ) (n w : ℕ) (long : maxSegments < length buffer) (k
       record { few = omega arith; is = stored (omega arith) ∙ sym (folded-many maxSegments kept w [] many ∙ rw i refl) }
 
   -- It is a later one.
-  pub kept-more : maxSegments < n → weightInRange w ≡ true → WeightKept buffer n w buffer n
+  pub kept_more : maxSegments < n → weightInRange w ≡ true → WeightKept buffer n w buffer n
   unfolding allInRange
-  kept-more h i =
-      let e : n ≡ suc maxSegments = omega (arith, k .few) in
+  kept_more h i =
+      let e : n ≡ suc maxSegments = omega (arith, k.few) in
       let ks = take maxSegments buffer in
-      let l = getD buffer maxSegments 0 in
+      let l = get_or buffer maxSegments 0 in
       let kept : take n buffer ≡ ks ++ (l ∷ []) = ap (λ (m : ℕ). take m buffer) e ∙ take-suc buffer maxSegments 0 long in
       let many : length ks ≡ maxSegments = length-take-le maxSegments buffer (omega arith) in
       let cut : folded maxSegments (take n buffer ++ (w ∷ [])) ≡ ks ++ (cond (weightInRange l && true) l 0 ∷ [])
-      = rw kept (ap (folded maxSegments) (append-snoc ks l (w ∷ [])) ∙ folded-many maxSegments ks l (w ∷ []) many ∙ rw i refl) in
+      = rw kept (ap (folded maxSegments) (append_snoc ks l (w ∷ [])) ∙ folded-many maxSegments ks l (w ∷ []) many ∙ rw i refl) in
       let before : take n buffer ≡ ks ++ (cond (weightInRange l && true) l 0 ∷ [])
-      = sym (k .folded-is) ∙ ap (folded maxSegments) kept ∙ folded-many maxSegments ks l [] many in
-      record { few = k .few; is = before ∙ sym cut }
+      = sym k.folded-is ∙ ap (folded maxSegments) kept ∙ folded-many maxSegments ks l [] many in
+      record { few = k.few; is = before ∙ sym cut }
 
 -- The weights kept with those that follow are cut as with one of them kept more.
 module _ {buffer₀ : List ℕ} {n w : ℕ} {buffer : List ℕ} {r : ℕ} (k : WeightKept buffer₀ n w buffer r) where
-  pub kept-on : (more : List ℕ) → folded maxSegments (take n buffer₀ ++ (w ∷ more)) ≡ folded maxSegments (take r buffer ++ more)
-  kept-on more =
+  pub kept_on : (more : List ℕ) → folded maxSegments (take n buffer₀ ++ (w ∷ more)) ≡ folded maxSegments (take r buffer ++ more)
+  kept_on more =
       let kept = take n buffer₀ in
-      ap (folded maxSegments) (sym (append-snoc kept w more))
-      ∙ sym (ap (λ (l : List ℕ). folded maxSegments (l ++ more)) (k .is) ∙ folded-onto maxSegments (kept ++ (w ∷ [])) more)
+      ap (folded maxSegments) (sym (append_snoc kept w more))
+      ∙ sym (ap (λ (l : List ℕ). folded maxSegments (l ++ more)) k.is ∙ folded-onto maxSegments (kept ++ (w ∷ [])) more)
 
   pub kept-front : KeptFront buffer r
   kept-front =
       let all = take n buffer₀ ++ (w ∷ []) in
       record {
-        few = k .few;
+        few = k.few;
         folded-is =
-            ap (folded maxSegments) (k .is ∙ sym (append-nil (folded maxSegments all)))
+            ap (folded maxSegments) (k.is ∙ sym (append-nil (folded maxSegments all)))
             ∙ folded-onto maxSegments all []
             ∙ ap (folded maxSegments) (append-nil all)
-            ∙ sym (k .is);
+            ∙ sym k.is;
       }
 
 -- No weights are kept at first.

@@ -1,33 +1,33 @@
 -- The weights of a form: how they are judged, and what is printed after them.
-use mathlib.Core.Path.{_≡_, refl, sym, ap, _∙_}
+use mathlib.Core.Path.{◌≡◌, refl, sym, ap, ◌∙◌}
 use mathlib.Core.Bool.{Bool, true, false, cond}
-use mathlib.Core.List.{List, [], _∷_, _++_}
-use Prim.Native.Nat.{ℕ, _+_, _≤_, _<_}
+use mathlib.Core.List.{List, [], ◌∷◌, ◌++◌}
+use Prim.Native.Nat.{ℕ, ◌+◌, ◌≤◌, ◌<◌}
 use native.Mathlib.Omega.{arith}
 use lib.Dec.{leb, eqb}
 use lib.IntN.{ℤ}
-use lib.ListN.{length, getD, take, drop, length-append}
+use lib.ListN.{length, get_or, take, drop, length-append}
 use lib.Seq.{length-take-le}
-use mathlib.Core.Logic.{⊎-elim}
+use mathlib.Core.Logic.{⊎_elim}
 use native.Mathlib.Nat.{eq-zero-or-pos}
-use borrow.Author.Tests.{leb-true, lt-leb, le-leb, ne-eqb, eqb-true}
-use Rattle·path.specs.Refusal.{check, byChecks, refusalOf}
-use Rattle·path.proofs.Checks.{both, passed, refuses, accepts, check-fails, check-passes}
-use Rattle·path.proofs.Cuts.{le-or-lt}
-use Rattle·least.specs.Segmentation.{maxSegments}
-use Rattle·weights.specs.Weights.{weightChecks, allInRange, rising, fitting}
-use Rattle·weights.specs.Inner.{folded}
-use Rattle·weights.proofs.Steps.{some-fit, weighs, sizes-weigh}
-use Rattle·weights.proofs.Folds.{folded-few, folded-checks}
-use Rattle·report·specs.specs.Forms.{weights, formOf}
-use Rattle·report·specs.specs.Lines.{refusalLine}
-use Rattle·report·specs.specs.Report.{limited, Turn, goes, stops, formChecks, weightsTurn, printed}
-use Rattle·report·specs.specs.Inner.{reportAt, lineOf, PathAhead, LineAhead, AheadRead, WeightsAre, WeightsTaken, WeightsFound, refusedWith}
-use Rattle·report·specs.specs.declared.forms.FormFound.{FormFound}
-use Rattle·report·specs.specs.declared.forms.Ahead.{Ahead}
-use Rattle·report·specs.specs.declared.forms.Ahead.the-variants as ahead
-use Rattle·report·proofs.proofs.Layouts.{any-stops}
-use Rattle·report·proofs.proofs.Turns.{stopped}
+use borrow.Author.Tests.{leb-true, lt-leb, le-leb, ne_eqb, eqb-true}
+use Rattle.path.specs.Refusal.{check, byChecks, refusalOf}
+use Rattle.path.proofs.Checks.{both, passed, refuses, accepts, check-fails, check-passes}
+use Rattle.path.proofs.Cuts.{le-or-lt}
+use Rattle.least.specs.Segmentation.{maxSegments}
+use Rattle.weights.specs.Weights.{weightChecks, allInRange, rising, fitting}
+use Rattle.weights.specs.Inner.{folded}
+use Rattle.weights.proofs.Steps.{some_fit, weighs, sizes-weigh}
+use Rattle.weights.proofs.Folds.{folded-few, folded-checks}
+use Rattle.report.specs.Forms.{weights, form_of}
+use Rattle.report.specs.Lines.{refusalLine}
+use Rattle.report.specs.Report.{limited, Turn, goes, stops, formChecks, weightsTurn, printed}
+use Rattle.report.specs.Inner.{reportAt, line_of, PathAhead, LineAhead, AheadRead, WeightsAre, WeightsTaken, WeightsFound, refusedWith}
+use Rattle.report.specs.declared.forms.FormFound.{FormFound}
+use Rattle.report.specs.declared.forms.Ahead.{Ahead}
+use Rattle.report.specs.declared.forms.Ahead.TheVariants as ahead
+use Rattle.report.proofs.Layouts.{any-stops}
+use Rattle.report.proofs.Turns.{stopped}
 
 -- What the answer on what comes next says.
 module _ (input : List ℕ) (at : ℕ) (r : Ahead) (h : AheadRead input at r) where
@@ -66,10 +66,10 @@ module _ (ws : List ℕ) (k : ℕ) where
 
   module _ (input : List ℕ) (at : ℕ) where
     -- They are refused.
-    taken-not : (c : ℕ) → (c ≡ 0 → ⊥) → c ≤ 14
+    taken_not : (c : ℕ) → (c ≡ 0 → ⊥) → c ≤ 14
         → ((xs : List ℤ) → printed (weightsTurn xs k [] (weights ws)) (λ t. reportAt t input at) ≡ refusalLine c)
         → WeightsTaken input ws k at (refusedWith c)
-    taken-not c n small h =
+    taken_not c n small h =
         record {
           refused = λ z. h;
           found = λ z. absurd (n z);
@@ -80,19 +80,19 @@ module _ (ws : List ℕ) (k : ℕ) where
           small = small;
         }
 
-    pub taken-refused : (c : ℕ) → c ≡ refusalOf (formChecks ws k) → (c ≡ 0 → ⊥) → WeightsTaken input ws k at (refusedWith c)
-    taken-refused c e n =
-        taken-not c n (rw e checks-small)
+    pub taken_refused : (c : ℕ) → c ≡ refusalOf (formChecks ws k) → (c ≡ 0 → ⊥) → WeightsTaken input ws k at (refusedWith c)
+    taken_refused c e n =
+        taken_not c n (rw e checks-small)
         (λ xs. stopped _ c _ (turn-checks xs ∙ sym (refuses (formChecks ws k) stops (goes [] (limited xs k ws)) c e n)))
 
     -- They are accepted, and so there is one.
     module _ (e : refusalOf (formChecks ws k) ≡ 0) where
       some : 1 ≤ length ws
-      some = leb-true 1 (length ws) (passed (check 14 (leb 1 (length ws))) (weightChecks ws k) (omega arith) e .0)
+      some = leb-true 1 (length ws) (passed (check 14 (leb 1 (length ws))) (weightChecks ws k) (omega arith) e).0
 
-      goes-on : (xs : List ℤ) → printed (weightsTurn xs k [] (weights ws)) (λ t. reportAt t input at) ≡ reportAt (limited xs k ws) input at
+      goes_on : (xs : List ℤ) → printed (weightsTurn xs k [] (weights ws)) (λ t. reportAt t input at) ≡ reportAt (limited xs k ws) input at
       unfolding printed
-      goes-on xs =
+      goes_on xs =
           ap (λ (u : Turn). printed u (λ t. reportAt t input at))
           (turn-checks xs ∙ sym (accepts (formChecks ws k) stops (goes [] (limited xs k ws)) e))
 
@@ -101,9 +101,9 @@ module _ (ws : List ℕ) (k : ℕ) where
       taken h within =
           record {
             refused = λ z. absurd (z refl);
-            found = λ z xs. goes-on xs ∙ h xs k ws;
+            found = λ z xs. goes_on xs ∙ h xs k ws;
             count = λ z. refl;
-            weighable = λ z few. weighs ws k (passed (check 14 (leb 1 (length ws))) (weightChecks ws k) (omega arith) e .1) (omega arith);
+            weighable = λ z few. weighs ws k (passed (check 14 (leb 1 (length ws))) (weightChecks ws k) (omega arith) e).1 (omega arith);
             within = within;
             zero = λ z. absurd (z refl);
             small = omega arith;
@@ -112,7 +112,7 @@ module _ (ws : List ℕ) (k : ℕ) where
       -- A line that is unended comes next.
       pub taken-off : ((xs : List ℤ) (k : ℕ) (ws : List ℕ) → reportAt (limited xs k ws) input at ≡ refusalLine 11)
           → WeightsTaken input ws k at (refusedWith 11)
-      taken-off h = taken-not 11 (λ z. omega arith) (omega arith) (λ xs. goes-on xs ∙ h xs k ws)
+      taken-off h = taken_not 11 (λ z. omega arith) (omega arith) (λ xs. goes_on xs ∙ h xs k ws)
 
       -- A line comes next that is no note, and no other weights are due.
       second-stops : (xs : List ℤ) (vs : List ℕ) → weightsTurn xs k ws (weights vs) ≡ stops 11
@@ -121,18 +121,18 @@ module _ (ws : List ℕ) (k : ℕ) where
           let none : length ws ≡ 0 → ⊥ = λ z. omega (arith, some) in
           let checks = check 11 (eqb (length ws) 0) in
           sym (refuses (checks ∷ formChecks vs k) stops (goes [] (limited xs k vs)) 11
-          (sym (check-fails checks (formChecks vs k) (ne-eqb (length ws) 0 none))) (λ z. omega arith))
+          (sym (check-fails checks (formChecks vs k) (ne_eqb (length ws) 0 none))) (λ z. omega arith))
 
       others-stop : (xs : List ℤ) (from to : ℕ) → LineAhead input at from to
-          → weightsTurn xs k ws (formOf (lineOf input from to)) ≡ stops 11
+          → weightsTurn xs k ws (form_of (line_of input from to)) ≡ stops 11
       unfolding weightsTurn
       others-stop xs from to h =
-          any-stops (weightsTurn xs k ws) refl (λ ys. refl) (λ l. refl) (second-stops xs) (λ p q. refl) (lineOf input from to) (h .no-note)
+          any-stops (weightsTurn xs k ws) refl (λ ys. refl) (λ l. refl) (second-stops xs) (λ p q. refl) (line_of input from to) h.no_note
 
       pub taken-line : (from to : ℕ) → LineAhead input at from to → WeightsTaken input ws k at (refusedWith 11)
       taken-line from to h =
-          taken-not 11 (λ z. omega arith) (omega arith)
-          (λ xs. goes-on xs ∙ h .goes-on xs k ws ∙ stopped _ 11 _ (others-stop xs from to h))
+          taken_not 11 (λ z. omega arith) (omega arith)
+          (λ xs. goes_on xs ∙ h.goes_on xs k ws ∙ stopped _ 11 _ (others-stop xs from to h))
 
 -- What is kept of weights is judged as they are.
 module _ (ws : List ℕ) (k : ℕ) (few : k ≤ maxSegments) where
@@ -142,11 +142,11 @@ module _ (ws : List ℕ) (k : ℕ) (few : k ≤ maxSegments) where
   some-kept : leb 1 (length kept) ≡ leb 1 (length ws)
   unfolding folded
   some-kept =
-      ⊎-elim
+      ⊎_elim
       (λ (h : length ws ≤ maxSegments). rw (le-leb (length ws) maxSegments h) refl)
       (λ (h : maxSegments < length ws).
       let ks = take maxSegments ws in
-      let z = cond (allInRange (drop maxSegments ws)) (getD ws maxSegments 0) 0 in
+      let z = cond (allInRange (drop maxSegments ws)) (get_or ws maxSegments 0) 0 in
       let one = le-leb 1 (length (ks ++ (z ∷ []))) (omega (arith, length-append ks (z ∷ []))) in
       rw (lt-leb (length ws) maxSegments h) (one ∙ sym (le-leb 1 (length ws) (omega arith))))
       (le-or-lt (length ws) maxSegments)
@@ -159,14 +159,14 @@ module _ (ws : List ℕ) (k : ℕ) (few : k ≤ maxSegments) where
   kept-all : refusalOf (formChecks ws k) ≡ 0 → kept ≡ ws
   kept-all e =
       let p = passed (check 14 (leb 1 (length ws))) (weightChecks ws k) (omega arith) e in
-      let some = leb-true 1 (length ws) (p .0) in
-      let fits = passed (check 14 (fitting ws k)) [] (omega arith) (passed (check 5 (allInRange ws)) _ (omega arith) (p .1) .1) .0 in
-      let counted = both (eqb (length ws) k) (rising ws) (sym (some-fit ws k (λ z. omega arith)) ∙ fits) .0 in
+      let some = leb-true 1 (length ws) p.0 in
+      let fits = (passed (check 14 (fitting ws k)) [] (omega arith) (passed (check 5 (allInRange ws)) _ (omega arith) p.1).1).0 in
+      let counted = (both (eqb (length ws) k) (rising ws) (sym (some_fit ws k (λ z. omega arith)) ∙ fits)).0 in
       folded-few maxSegments ws (omega (arith, eqb-true (length ws) k counted))
 
   turn-kept : (xs : List ℤ) → weightsTurn xs k [] (weights kept) ≡ weightsTurn xs k [] (weights ws)
   turn-kept xs =
-      ⊎-elim
+      ⊎_elim
       (λ (z : refusalOf (formChecks ws k) ≡ 0). ap (λ (l : List ℕ). weightsTurn xs k [] (weights l)) (kept-all z))
       (λ (z : 0 < refusalOf (formChecks ws k)).
       let not : refusalOf (formChecks ws k) ≡ 0 → ⊥ = λ y. omega arith in
@@ -178,13 +178,13 @@ module _ (ws : List ℕ) (k : ℕ) (few : k ≤ maxSegments) where
 
 -- The weights that the input goes on with: none, or those of a line, or a refusal.
 module _ (input buffer : List ℕ) (k at : ℕ) (few : k ≤ maxSegments) where
-  pub found-none : PathAhead input at → at ≤ length input → WeightsFound input buffer k at (record { refusal = 0; value = 0; next = at })
-  found-none h within =
+  pub found_none : PathAhead input at → at ≤ length input → WeightsFound input buffer k at (record { refusal = 0; value = 0; next = at })
+  found_none h within =
       record {
         refused = λ z. absurd (z refl);
         found = λ z xs. h xs k [];
         weighable = λ z. sizes-weigh k (omega arith);
-        in-buffer = omega arith;
+        in_buffer = omega arith;
         within = within;
         small = omega arith;
       }
@@ -195,30 +195,30 @@ module _ (input buffer : List ℕ) (k at : ℕ) (few : k ≤ maxSegments) where
         refused = λ z. h;
         found = λ z. absurd (omega arith);
         weighable = λ z. absurd (omega arith);
-        in-buffer = omega arith;
+        in_buffer = omega arith;
         within = omega arith;
         small = omega arith;
       }
 
   -- A line whose form is weights that are kept at the front of the buffer.
-  pub found-line : (from to n : ℕ) → LineAhead input at from to → WeightsAre (formOf (lineOf input from to)) buffer n
+  pub found-line : (from to n : ℕ) → LineAhead input at from to → WeightsAre (form_of (line_of input from to)) buffer n
       → (r : FormFound) → WeightsTaken input (take n buffer) k (to + 1) r → WeightsFound input buffer k at r
   found-line from to n h f r t =
       let on : (xs : List ℤ) → reportAt (limited xs k []) input at
       ≡ printed (weightsTurn xs k [] (weights (take n buffer))) (λ s. reportAt s input (to + 1))
-      = λ xs. h .goes-on xs k [] ∙ rw (f .form, f .are) (ap (λ (u : Turn). printed u (λ s. reportAt s input (to + 1))) (sym (turn-kept (f .all) k few xs))) in
-      let same : r .refusal ≡ 0 → r .value ≡ n = λ z. t .count z ∙ length-take-le n buffer (f .in-buffer) in
+      = λ xs. h.goes_on xs k [] ∙ rw (f.form, f.are) (ap (λ (u : Turn). printed u (λ s. reportAt s input (to + 1))) (sym (turn-kept f.all k few xs))) in
+      let same : r.refusal ≡ 0 → r.value ≡ n = λ z. t.count z ∙ length-take-le n buffer f.in_buffer in
       record {
-        refused = λ z xs. on xs ∙ t .refused z xs;
-        found = λ z xs. rw (same z) (on xs ∙ t .found z xs);
-        weighable = λ z. rw (same z) (t .weighable z few);
-        in-buffer = ⊎-elim (λ (z : r .refusal ≡ 0). omega (arith, same z, f .in-buffer)) (λ (z : 0 < r .refusal). omega (arith, t .zero (λ y. omega arith))) (eq-zero-or-pos (r .refusal));
-        within = t .within;
-        small = t .small;
+        refused = λ z xs. on xs ∙ t.refused z xs;
+        found = λ z xs. rw (same z) (on xs ∙ t.found z xs);
+        weighable = λ z. rw (same z) (t.weighable z few);
+        in_buffer = ⊎_elim (λ (z : r.refusal ≡ 0). omega (arith, same z, f.in_buffer)) (λ (z : 0 < r.refusal). omega (arith, t.zero (λ y. omega arith))) (eq-zero-or-pos r.refusal);
+        within = t.within;
+        small = t.small;
       }
 
   -- A line whose form is none.
   pub found-other : (from to : ℕ) → LineAhead input at from to
-      → ((xs : List ℤ) (k : ℕ) (ws : List ℕ) → weightsTurn xs k ws (formOf (lineOf input from to)) ≡ stops 11)
+      → ((xs : List ℤ) (k : ℕ) (ws : List ℕ) → weightsTurn xs k ws (form_of (line_of input from to)) ≡ stops 11)
       → WeightsFound input buffer k at (refusedWith 11)
-  found-other from to h o = found-not (λ xs. h .goes-on xs k [] ∙ stopped _ 11 _ (o xs k []))
+  found-other from to h o = found-not (λ xs. h.goes_on xs k [] ∙ stopped _ 11 _ (o xs k []))

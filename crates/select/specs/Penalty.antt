@@ -1,9 +1,7 @@
 -- A penalty, the trade's price, is a fraction p / q. Here is its range, and what a model costs at it. Equal fractions are equal
 -- penalties: that every call does the same at them is claimed in the crate `demands`.
-use mathlib.Core.Bool.{Bool, _&&_}
-use Prim.Native.Nat.{ℕ, _+_, _*_}
-use lib.Dec.{leb}
-use Rattle·path.specs.Model.{Model}
+use Rattle.std.specs.Prelude.{Bool, ◌&&◌, ℕ, ◌+◌, ◌*◌, leb}
+use Rattle.path.specs.Model.{Model}
 
 -- The largest numerator is 2^44.
 abbrev pub maxNumerator : ℕ
@@ -19,4 +17,4 @@ validPenalty p q = leb p maxNumerator && leb 1 q && leb q maxDenominator
 
 -- What a model costs at the penalty p / q, times q: what (4) minimizes, with the weight as the regularizer's value (section 2.2).
 abbrev pub cost : ℕ → ℕ → Model → ℕ
-cost p q m = q * m .loss + p * m .weight
+cost p q m = q * m.loss + p * m.weight

@@ -1,18 +1,13 @@
 // The calls on signals, each made on buffers of 40 places that hold marks and on scratch bytes that are 7.
 
-use crate::outcome::Outcome;
-use crate::outcome::SCRATCH;
-use crate::outcome::no_call;
+use crate::outcome::{Outcome, SCRATCH, no_call};
 use std::num::wrapping_add_u64;
-use testing::list::MARK;
-use testing::list::within;
-use testing::sample::LEVEL_MARK;
-use testing::sample::START_MARK;
-use testing::sample::levels_of;
-use testing::sample::starts_of;
+use testing::list::{MARK, within};
+use testing::sample::{LEVEL_MARK, START_MARK, levels_of, starts_of};
 
 // What a call is given beside the samples: the limit, the least length of a segment, the weights and how many of them are lent, the
 // penalty p / q, and the number of places of each buffer.
+#[derive(Drop)]
 pub struct Arguments {
     pub limit: u64,
     pub min_segment_len: u64,

@@ -1,14 +1,9 @@
 // Weights that random calls are lent, what is right for them, and damaged ones. Nothing here is taken from the calls that are tested.
 
 use crate::calls::Arguments;
-use testing::list::at;
-use testing::list::count_up;
-use testing::list::last;
-use testing::list::put;
-use testing::number::minus;
-use testing::number::plus;
-use testing::random::below;
-use testing::random::next;
+use testing::list::{at, count_up, last, put};
+use testing::number::{minus, plus};
+use testing::random::{below, next};
 
 // The number of kinds.
 const KINDS: u64 = 5;

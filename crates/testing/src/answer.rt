@@ -3,6 +3,7 @@
 use crate::number::NONE;
 use path::PathResult;
 
+#[derive(Drop)]
 pub struct Answer {
     pub refusal: u64,
     pub entries: u64,

@@ -1,11 +1,9 @@
 // Lists of numbers, read and written with no index out of range. A value past the end is NONE, so that a list that is too short
 // counts as a fault where it is compared.
 
-ghost use Prim.Native.Nat.{_≤_};
-use crate::number::NONE;
-use crate::number::differs;
-use crate::number::minus;
-use crate::number::plus;
+ghost use Rattle.std.specs.Prelude.{◌≤◌};
+
+use crate::number::{NONE, differs, minus, plus};
 
 // What the buffers of a test hold before a call, which is no size, no loss and no weight.
 pub const MARK: u64 = 99999999999999;
@@ -66,7 +64,7 @@ pub fn differences(values: &[u64], right: &[u64]) -> u64 {
 
 // A number of places, and at most all of them. With more no call is made.
 pub fn within(n: usize, all: usize) -> usize
-    ensures { λ r. ⌜ r ≤ all ⌝ }
+    ensures { result ≤ all }
 {
     if n < all { n } else { all }
 }

@@ -2,24 +2,17 @@
 // the rules alone, and nothing here is taken from the calls that are tested. The cell for k segments over the first j
 // samples is at place 513 k + j of a table. Samples and levels are raised.
 
-use crate::list::at;
-use crate::list::put;
-use crate::number::NONE;
-use crate::number::divide;
-use crate::number::fault;
-use crate::number::minus;
-use crate::number::plus;
-use crate::number::times;
+use crate::list::{at, put};
+use crate::number::{NONE, divide, fault, minus, plus, times};
 use crate::segmentation;
-use crate::segmentation::Segmentation;
-use crate::segmentation::loss_at;
-use crate::segmentation::with_segment;
+use crate::segmentation::{Segmentation, loss_at, with_segment};
 
 // The number of cells of a table.
 const CELLS: usize = 16929;
 
 // What is known of a signal: the number of its samples, the sums of its first samples, the least loss of each size, the start of
 // the last segment, less one, in each cell, and the number of faults of the programme itself.
+#[derive(Drop)]
 pub struct Programme {
     pub count: u64,
     pub sums: [u64; 513],
@@ -29,6 +22,7 @@ pub struct Programme {
 }
 
 // The start of a last segment, less one, and the loss with it.
+#[derive(Drop)]
 pub struct LastSegment {
     pub start: u64,
     pub loss: u64,

@@ -1,7 +1,6 @@
 // Samples and levels, raised by 32,768 so that none is negative, and the buffers of starts and levels.
 
-use crate::list::MARK;
-use crate::list::at;
+use crate::list::{MARK, at};
 
 // What the starts and the levels hold before a call. A level that is the mark counts as a place that is as before, and so as a
 // mismatch where it is right.

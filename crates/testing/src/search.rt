@@ -2,12 +2,8 @@
 // may stand in any order, save that a path lists its entries in theirs. Costs go by losses and weights, and sizes decide only between
 // models that cost the same. Nothing here is taken from the calls that are tested.
 
-use crate::list::at;
-use crate::list::put;
-use crate::number::NONE;
-use crate::number::minus;
-use crate::number::plus;
-use crate::number::times;
+use crate::list::{at, put};
+use crate::number::{NONE, minus, plus, times};
 
 // Whether a size, a loss and a weight are in range.
 pub fn in_range(size: u64, loss: u64, weight: u64) -> bool {

@@ -1,17 +1,11 @@
 // A segmentation that is right. Samples and levels are raised. Nothing here is taken from the calls that are tested.
 
-use crate::list::MARK;
-use crate::list::at;
-use crate::list::count_up;
-use crate::list::fill;
-use crate::list::put;
-use crate::number::NONE;
-use crate::number::minus;
-use crate::number::plus;
-use crate::number::times;
+use crate::list::{MARK, at, count_up, fill, put};
+use crate::number::{NONE, minus, plus, times};
 use crate::search::put_path;
 
 // The number of segments, their loss, their starts, counted from 1, and their levels, with marks after these.
+#[derive(Drop)]
 pub struct Segmentation {
     pub count: u64,
     pub loss: u64,

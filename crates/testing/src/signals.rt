@@ -1,16 +1,14 @@
 // Random signals of many kinds, raised.
 
 use crate::list::put;
-use crate::number::minus;
-use crate::number::plus;
-use crate::number::times;
-use crate::random::below;
-use crate::random::next;
+use crate::number::{minus, plus, times};
+use crate::random::{below, next};
 
 // The number of kinds of long signals.
 pub const KINDS: u64 = 12;
 
 // Samples of a kind are drawn from so many numbers, from the lowest on and each a step above the one before. They are raised.
+#[derive(Drop)]
 struct Kind {
     lowest: u64,
     step: u64,

@@ -1,9 +1,7 @@
 // Text and numbers on standard output.
 
-use crate::list::MARK;
-use crate::list::at;
-use crate::number::minus;
-use crate::number::plus;
+use crate::list::{MARK, at};
+use crate::number::{minus, plus};
 use libc::STDOUT_FILENO;
 
 // Prints a number, and `_` for a mark.

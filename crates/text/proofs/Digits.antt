@@ -1,9 +1,9 @@
 -- The decimal digits of a number: a number below 10 has one, and any other has a last digit after those of a tenth of it. So a
 -- number below a power of 10 has few.
-use mathlib.Core.Path.{_≡_, refl}
+use mathlib.Core.Path.{◌≡◌, refl}
 use mathlib.Core.Bool.{Bool, true, false, cond}
-use mathlib.Core.List.{[], _∷_, _++_}
-use Prim.Native.Nat.{ℕ, zero, suc, _+_, _/_, _%_, _^_, _≤_, _<_}
+use mathlib.Core.List.{[], ◌∷◌, ◌++◌}
+use Prim.Native.Nat.{ℕ, zero, suc, ◌+◌, ◌/◌, ◌%◌, ◌^◌, ◌≤◌, ◌<◌}
 use native.Mathlib.Nat.{pow-suc}
 use native.Mathlib.Omega.{arith}
 use lib.Dec.{ltb}
@@ -11,7 +11,7 @@ use lib.IntN.{ℤ, pos, negsuc}
 use lib.ListN.{length, length-append}
 use lib.Signed.{mag}
 use borrow.Author.Tests.{lt-ltb, le-ltb, ltb-true, ltb-false}
-use Rattle·text·specs.specs.Text.{digitsWithin, digits, wholeDigits}
+use Rattle.text.specs.Text.{digitsWithin, digits, wholeDigits}
 
 -- A larger bound on the number of digits changes nothing.
 digits-any : (f g n : ℕ) → n < f → n < g → digitsWithin f n ≡ digitsWithin g n
@@ -33,12 +33,12 @@ unfolding digits digitsWithin
 digits-one n h = let e : n % 10 ≡ n = omega arith in simp (lt-ltb n 10 h, e)
 
 -- Any other has a last digit after those of a tenth of it.
-pub digits-more : (n : ℕ) → 10 ≤ n → digits n ≡ digits (n / 10) ++ ((48 + n % 10) ∷ [])
+pub digits_more : (n : ℕ) → 10 ≤ n → digits n ≡ digits (n / 10) ++ ((48 + n % 10) ∷ [])
 unfolding digits digitsWithin
-digits-more n h = simp (le-ltb n 10 h) (rw (digits-any n (suc (n / 10)) (n / 10) (omega arith) (omega arith)))
+digits_more n h = simp (le-ltb n 10 h) (rw (digits-any n (suc (n / 10)) (n / 10) (omega arith) (omega arith)))
 
 pub digits-length : (n : ℕ) → 10 ≤ n → length (digits n) ≡ length (digits (n / 10)) + 1
-digits-length n h = rw (digits-more n h) (length-append (digits (n / 10)) ((48 + n % 10) ∷ []))
+digits-length n h = rw (digits_more n h) (length-append (digits (n / 10)) ((48 + n % 10) ∷ []))
 
 -- A number below 10 ^ (k + 1) has at most k + 1 digits.
 pub digits-few : (k n : ℕ) → n < 10 ^ suc k → length (digits n) ≤ suc k

@@ -1,15 +1,13 @@
 // Printing. Each function writes a text at a place of the output, and returns the place after it.
 
-ghost use mathlib.Core.List.{[], _∷_};
-ghost use Prim.Native.Nat.{_+_, _≤_};
-ghost use lib.ListN.{length};
-ghost use Rattle·text·specs.specs.Text.{digits, wholeDigits, twoText};
-ghost use Rattle·text·specs.specs.Inner.{Put};
+ghost use Rattle.std.specs.Prelude.{[], ◌∷◌, ◌+◌, ◌≤◌, length};
+ghost use Rattle.text.specs.Text.{digits, wholeDigits, twoText};
+ghost use Rattle.text.specs.Inner.{Put};
 
 // Writes a text.
 pub fn put_text(output: &mut [u8], at: usize, text: &[u8]) -> usize
-    requires { ⌜ at + length (now text) ≤ length (now output) ⌝ }
-    ensures { λ r. ⌜ Put (now (text .entry)) at (now (output .entry)) (now (output .exit)) r ⌝ }
+    requires { at + length text.now ≤ length output.old }
+    ensures { Put text.now at output.old output.new result }
 {
     let mut i = 0;
     while i < text.len() {
@@ -21,8 +19,8 @@ pub fn put_text(output: &mut [u8], at: usize, text: &[u8]) -> usize
 
 // Writes one byte.
 pub fn put_byte(output: &mut [u8], at: usize, byte: u8) -> usize
-    requires { ⌜ at + length (byte ∷ []) ≤ length (now output) ⌝ }
-    ensures { λ r. ⌜ Put (byte ∷ []) at (now (output .entry)) (now (output .exit)) r ⌝ }
+    requires { at + length (byte ∷ []) ≤ length output.old }
+    ensures { Put (byte ∷ []) at output.old output.new result }
 {
     output[at] = byte;
     at + 1
@@ -30,8 +28,8 @@ pub fn put_byte(output: &mut [u8], at: usize, byte: u8) -> usize
 
 // Writes a number in decimal.
 pub fn put_number(output: &mut [u8], at: usize, n: u64) -> usize
-    requires { ⌜ at + length (digits n) ≤ length (now output) ⌝ }
-    ensures { λ r. ⌜ Put (digits n) at (now (output .entry)) (now (output .exit)) r ⌝ }
+    requires { at + length (digits n) ≤ length output.old }
+    ensures { Put (digits n) at output.old output.new result }
 {
     let digit = b'0' + (n % 10) as u8;
     if n < 10 {
@@ -43,8 +41,8 @@ pub fn put_number(output: &mut [u8], at: usize, n: u64) -> usize
 
 // Writes a level in decimal.
 pub fn put_level(output: &mut [u8], at: usize, level: i16) -> usize
-    requires { ⌜ at + length (wholeDigits level) ≤ length (now output) ⌝ }
-    ensures { λ r. ⌜ Put (wholeDigits level) at (now (output .entry)) (now (output .exit)) r ⌝ }
+    requires { at + length (wholeDigits level) ≤ length output.old }
+    ensures { Put (wholeDigits level) at output.old output.new result }
 {
     let raised = segment::raise(level) as u64;
     if raised < 32768 {
@@ -56,8 +54,8 @@ pub fn put_level(output: &mut [u8], at: usize, level: i16) -> usize
 
 // Writes two numbers with a blank between them.
 pub fn put_two(output: &mut [u8], at: usize, a: u64, b: u64) -> usize
-    requires { ⌜ at + length (twoText a b) ≤ length (now output) ⌝ }
-    ensures { λ r. ⌜ Put (twoText a b) at (now (output .entry)) (now (output .exit)) r ⌝ }
+    requires { at + length (twoText a b) ≤ length output.old }
+    ensures { Put (twoText a b) at output.old output.new result }
 {
     let first = put_number(output, at, a);
     let blank = put_byte(output, first, b' ');

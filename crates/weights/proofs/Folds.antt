@@ -1,56 +1,56 @@
 -- A list of weights that is cut to one more than the largest limit, with a 0 at its end where one of those cut off is out of range, is
 -- refused as the whole list is.
-use mathlib.Core.Path.{_≡_, refl, ap, sym, _∙_}
-use mathlib.Core.Bool.{Bool, true, false, cond, _&&_}
-use mathlib.Core.Logic.{⊎-elim}
-use mathlib.Core.List.{List, [], _∷_, _++_, append-assoc}
-use Prim.Native.Nat.{ℕ, zero, suc, _+_, _≤_, _<_}
+use mathlib.Core.Path.{◌≡◌, refl, ap, sym, ◌∙◌}
+use mathlib.Core.Bool.{Bool, true, false, cond, ◌&&◌}
+use mathlib.Core.Logic.{⊎_elim}
+use mathlib.Core.List.{List, [], ◌∷◌, ◌++◌, append_assoc}
+use Prim.Native.Nat.{ℕ, zero, suc, ◌+◌, ◌≤◌, ◌<◌}
 use native.Mathlib.Omega.{arith}
-use lib.ListN.{length, getD, take, drop, length-append, length-take}
-use lib.Seq.{length-take-le, drop-cons, append-snoc, split-at, take-at, drop-at, getD-at}
-use borrow.Author.Tests.{le-leb, lt-leb, ne-eqb}
-use Rattle·path.specs.Refusal.{check, refusalOf, weightInRange}
-use Rattle·path.proofs.Cuts.{le-or-lt}
-use Rattle·weights·specs.specs.Weights.{allInRange, fitting, weightChecks}
-use Rattle·weights·specs.specs.Inner.{folded}
-use Rattle·weights·proofs.proofs.Steps.{some-fit}
+use lib.ListN.{length, get_or, take, drop, length-append, length-take}
+use lib.Seq.{length-take-le, drop-cons, append_snoc, split_at, take_at, drop_at, get_or_at}
+use borrow.Author.Tests.{le-leb, lt-leb, ne_eqb}
+use Rattle.path.specs.Refusal.{check, refusalOf, weightInRange}
+use Rattle.path.proofs.Cuts.{le-or-lt}
+use Rattle.weights.specs.Weights.{allInRange, fitting, weightChecks}
+use Rattle.weights.specs.Inner.{folded}
+use Rattle.weights.proofs.Steps.{some_fit}
 
-and-assoc : (a b c : Bool) → ((a && b) && c) ≡ (a && (b && c))
-and-assoc true b c = refl
-and-assoc false b c = refl
+and_assoc : (a b c : Bool) → ((a && b) && c) ≡ (a && (b && c))
+and_assoc true b c = refl
+and_assoc false b c = refl
 
 -- The range of weights one after the other.
 range-append : (xs ys : List ℕ) → allInRange (xs ++ ys) ≡ (allInRange xs && allInRange ys)
 unfolding allInRange
 range-append [] ys = refl
-range-append (x ∷ xs) ys = ap (λ (b : Bool). weightInRange x && b) (range-append xs ys) ∙ sym (and-assoc (weightInRange x) (allInRange xs) (allInRange ys))
+range-append (x ∷ xs) ys = ap (λ (b : Bool). weightInRange x && b) (range-append xs ys) ∙ sym (and_assoc (weightInRange x) (allInRange xs) (allInRange ys))
 
 range-parts : (c : ℕ) (ws : List ℕ) → allInRange ws ≡ (allInRange (take c ws) && allInRange (drop c ws))
 unfolding allInRange
 range-parts zero ws = refl
 range-parts (suc c) [] = refl
-range-parts (suc c) (w ∷ ws) = ap (λ (b : Bool). weightInRange w && b) (range-parts c ws) ∙ sym (and-assoc (weightInRange w) (allInRange (take c ws)) (allInRange (drop c ws)))
+range-parts (suc c) (w ∷ ws) = ap (λ (b : Bool). weightInRange w && b) (range-parts c ws) ∙ sym (and_assoc (weightInRange w) (allInRange (take c ws)) (allInRange (drop c ws)))
 
 and-true : (b : Bool) → (b && true) ≡ b
 and-true true = refl
 and-true false = refl
 
-and-left : (a b : Bool) → (a && b) ≡ true → a ≡ true
-and-left true b h = refl
-and-left false b h = h
+and_left : (a b : Bool) → (a && b) ≡ true → a ≡ true
+and_left true b h = refl
+and_left false b h = h
 
-range-cons : (w : ℕ) (ws : List ℕ) → allInRange (w ∷ ws) ≡ (weightInRange w && allInRange ws)
+range_cons : (w : ℕ) (ws : List ℕ) → allInRange (w ∷ ws) ≡ (weightInRange w && allInRange ws)
 unfolding allInRange
-range-cons w ws = refl
+range_cons w ws = refl
 
 -- The last weight that is kept is in range just where those that are cut off are.
-last-in-range : (c : ℕ) (ws : List ℕ) → c < length ws → weightInRange (cond (allInRange (drop c ws)) (getD ws c 0) 0) ≡ allInRange (drop c ws)
+last-in-range : (c : ℕ) (ws : List ℕ) → c < length ws → weightInRange (cond (allInRange (drop c ws)) (get_or ws c 0) 0) ≡ allInRange (drop c ws)
 last-in-range c ws h = by-test (allInRange (drop c ws)) refl
   where
-    by-test : (b : Bool) → allInRange (drop c ws) ≡ b → weightInRange (cond b (getD ws c 0) 0) ≡ b
+    by-test : (b : Bool) → allInRange (drop c ws) ≡ b → weightInRange (cond b (get_or ws c 0) 0) ≡ b
     by-test true e =
-        and-left (weightInRange (getD ws c 0)) (allInRange (drop (suc c) ws))
-        (sym (range-cons (getD ws c 0) (drop (suc c) ws)) ∙ ap allInRange (sym (drop-cons ws c 0 h)) ∙ e)
+        and_left (weightInRange (get_or ws c 0)) (allInRange (drop (suc c) ws))
+        (sym (range_cons (get_or ws c 0) (drop (suc c) ws)) ∙ ap allInRange (sym (drop-cons ws c 0 h)) ∙ e)
     by-test false e = refl
 
 one-range : (w : ℕ) → allInRange (w ∷ []) ≡ weightInRange w
@@ -58,8 +58,8 @@ unfolding allInRange
 one-range w = and-true (weightInRange w)
 
 -- A list that is not as long as the limit does not fit it.
-too-long : (ws : List ℕ) (limit : ℕ) → limit < length ws → fitting ws limit ≡ false
-too-long ws limit h = some-fit ws limit (λ z. omega arith) ∙ rw (ne-eqb (length ws) limit (λ z. omega arith))
+too_long : (ws : List ℕ) (limit : ℕ) → limit < length ws → fitting ws limit ≡ false
+too_long ws limit h = some_fit ws limit (λ z. omega arith) ∙ rw (ne_eqb (length ws) limit (λ z. omega arith))
 
 -- Few weights are not cut.
 pub folded-few : (c : ℕ) (ws : List ℕ) → length ws ≤ c → folded c ws ≡ ws
@@ -70,14 +70,14 @@ folded-few c ws h = rw (le-leb (length ws) c h)
 pub folded-checks : (c : ℕ) (ws : List ℕ) (limit : ℕ) → limit ≤ c → refusalOf (weightChecks (folded c ws) limit) ≡ refusalOf (weightChecks ws limit)
 unfolding folded
 folded-checks c ws limit h =
-    ⊎-elim
+    ⊎_elim
     (λ (few : length ws ≤ c). rw (le-leb (length ws) c few))
     (λ (many : c < length ws).
-    let z = cond (allInRange (drop c ws)) (getD ws c 0) 0 in
+    let z = cond (allInRange (drop c ws)) (get_or ws c 0) 0 in
     let kept = take c ws ++ (z ∷ []) in
     let long : limit < length kept = omega (arith, length-append (take c ws) (z ∷ []), length-take c ws) in
     let range : allInRange kept ≡ allInRange ws = range-append (take c ws) (z ∷ []) ∙ ap (λ (b : Bool). allInRange (take c ws) && b) (one-range z ∙ last-in-range c ws many) ∙ sym (range-parts c ws) in
-    rw (lt-leb (length ws) c many) (λ i. refusalOf (check 5 (range i) ∷ check 14 ((too-long kept limit long ∙ sym (too-long ws limit (omega arith))) i) ∷ [])))
+    rw (lt-leb (length ws) c many) (λ i. refusalOf (check 5 (range i) ∷ check 14 ((too_long kept limit long ∙ sym (too_long ws limit (omega arith))) i) ∷ [])))
     (le-or-lt (length ws) c)
 
 -- A list of more than c weights is cut after the first c, ks.
@@ -85,27 +85,27 @@ pub folded-many : (c : ℕ) (ks : List ℕ) (w : ℕ) (ws : List ℕ) → length
 unfolding folded
 folded-many c ks w ws e =
     let long = lt-leb (length (ks ++ (w ∷ ws))) c (omega (arith, length-append ks (w ∷ ws))) in
-    rw (long, take-at ks (w ∷ ws) c e, drop-at ks (w ∷ ws) c e, getD-at ks w ws 0 c e) refl
+    rw (long, take_at ks (w ∷ ws) c e, drop_at ks (w ∷ ws) c e, get_or_at ks w ws 0 c e) refl
 
 -- Weights that are cut and then get more are cut as the whole list is.
 pub folded-onto : (c : ℕ) (xs ys : List ℕ) → folded c (folded c xs ++ ys) ≡ folded c (xs ++ ys)
 folded-onto c xs ys =
-    ⊎-elim
+    ⊎_elim
     (λ (few : length xs ≤ c). rw (folded-few c xs few) refl)
     (λ (many : c < length xs).
     let ks = take c xs in
-    let w = getD xs c 0 in
+    let w = get_or xs c 0 in
     let us = drop (suc c) xs in
     let z = cond (allInRange (w ∷ us)) w 0 in
     let kept : length ks ≡ c = length-take-le c xs (omega arith) in
-    let parts : xs ≡ ks ++ (w ∷ us) = split-at xs c 0 many in
+    let parts : xs ≡ ks ++ (w ∷ us) = split_at xs c 0 many in
     let cut : folded c xs ≡ ks ++ (z ∷ []) = ap (folded c) parts ∙ folded-many c ks w us kept in
     ap (λ (l : List ℕ). folded c (l ++ ys)) cut
-    ∙ ap (folded c) (append-snoc ks z ys)
+    ∙ ap (folded c) (append_snoc ks z ys)
     ∙ folded-many c ks z ys kept
     ∙ ap (λ (l : ℕ). ks ++ (l ∷ [])) (last-same w us)
     ∙ sym (folded-many c ks w (us ++ ys) kept)
-    ∙ ap (folded c) (sym (append-assoc ks (w ∷ us) ys))
+    ∙ ap (folded c) (sym (append_assoc ks (w ∷ us) ys))
     ∙ ap (λ (l : List ℕ). folded c (l ++ ys)) (sym parts))
     (le-or-lt (length xs) c)
   where
@@ -117,4 +117,4 @@ folded-onto c xs ys =
     last-same w us =
         let z = cond (allInRange (w ∷ us)) w 0 in
         let stands : weightInRange z ≡ allInRange (w ∷ us) = last-in-range 0 (w ∷ us) (omega arith) in
-        rw (range-cons z ys, stands, range-append (w ∷ us) ys) (by-test (allInRange (w ∷ us)) (allInRange ys) w)
+        rw (range_cons z ys, stands, range-append (w ∷ us) ys) (by-test (allInRange (w ∷ us)) (allInRange ys) w)

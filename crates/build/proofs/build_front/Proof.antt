@@ -1,35 +1,35 @@
 -- `build::build_front` meets its contract: filled, and then cleared past the path's end as far as the number of models.
-use mathlib.Core.Path.{ap, _∙_}
+use mathlib.Core.Path.{ap, ◌∙◌}
 use Prim.Native.Nat.{ℕ}
-use Rattle·path.specs.Model.{Lists, lists}
-use Rattle·path.specs.Append.{pathLeft}
-use Rattle·path.specs.Inner.{firstPlaces}
-use Rattle·path.proofs.Held.{held-left}
-use Rattle·build·specs.specs.Build.{built}
-use borrow.Author.Needs.{needs}
-use Rattle·build·proofs.proofs.build_front.Statement.{statement}
-use Rattle·build·proofs.proofs.build_front.Tie as tie
+use Rattle.path.specs.Model.{Lists, lists}
+use Rattle.path.specs.Append.{pathLeft}
+use Rattle.path.specs.Inner.{firstPlaces}
+use Rattle.path.proofs.Held.{held-left}
+use Rattle.build.specs.Build.{built}
+use borrow.Author.Rules.{rules}
+use Rattle.build.proofs.build_front.Statement.{statement}
+use Rattle.build.proofs.build_front.Tie as tie
 
 returns : tie.Need-returns
 returns c =
-    let s = c .before .before .before .before .before .before .before .before .before .before .before .before .before .before .before .before .before .before .before .before .before .before .before .before in
-    let a = s .args in
-    let n = a .count in
-    let t₀ = lists (a .sizes .now) (a .losses .now) (a .weights .now) in
+    let s = c.before.before.before.before.before.before.before.before.before.before.before.before.before.before.before.before.before.before.before.before.before.before.before.before in
+    let a = s.args in
+    let n = a.count in
+    let t₀ = lists a.sizes.now a.losses.now a.weights.now in
     let path = built (firstPlaces n t₀) n in
-    let f = c .before .before .before .before .before .before .before .before .before .before .before .before .before .before .before .before .before .fill in
-    let done = c .before .before .before .before .before .before .before .clear-between .ensures in
-    held-left path t₀ (lists (f .last .0) (f .last .1 .0) (f .last .1 .1 .0)) (f .result .entries) n (f .ensures .held) (s .pre .fits) (f .result .tests .count) (lists _ _ _)
-    (ap (λ (t : Lists). t .sizes) done) (ap (λ (t : Lists). t .losses) done) (ap (λ (t : Lists). t .weights) done)
-    ∙ ap (λ (tests : ℕ). pathLeft path tests n t₀) (f .ensures .counted)
+    let f = c.before.before.before.before.before.before.before.before.before.before.before.before.before.before.before.before.before.fill in
+    let done = c.before.before.before.before.before.before.before.clear-between.ensures in
+    held-left path t₀ (lists f.new.0 f.new.1.0 f.new.1.1.0) f.result.entries n f.ensures.held s.requires.fits f.result.tests.count (lists _ _ _)
+    (ap (λ (t : Lists). t.sizes) done) (ap (λ (t : Lists). t.losses) done) (ap (λ (t : Lists). t.weights) done)
+    ∙ ap (λ (tests : ℕ). pathLeft path tests n t₀) f.ensures.counted
 
 pub build-front-spec : {M : Type 1} → statement M
 build-front-spec =
     tie.close
     (tie.spec
-    (λ c κs. search needs)
-    (λ c κs. search needs)
-    (λ c. search needs)
-    (λ c. search needs)
-    (λ c. search needs)
+    (λ c κs. search rules)
+    (λ c κs. search rules)
+    (λ c. search rules)
+    (λ c. search rules)
+    (λ c. search rules)
     returns)

@@ -1,48 +1,48 @@
 -- `build::clear_between` meets its contract: each list is cleared from the one place to the other.
-use mathlib.Core.Path.{_≡_, ap, _∙_}
+use mathlib.Core.Path.{◌≡◌, ap, ◌∙◌}
 use mathlib.Core.List.{List}
-use Prim.Native.Nat.{ℕ, _-_, _≤_}
+use Prim.Native.Nat.{ℕ, ◌-◌, ◌≤◌}
 use lib.ListN.{length, replicate}
-use borrow.Author.Needs.{needs}
-use borrow.Rule.Slice.PartMut.{midOf, putMid, mid-len}
-use Rattle·path.specs.Model.{lists}
-use Rattle·build·specs.specs.Inner.{clearedList}
-use Rattle·build·proofs.proofs.clear_between.Statement.{statement}
-use Rattle·build·proofs.proofs.clear_between.Tie as tie
+use borrow.Author.Rules.{rules}
+use borrow.Rule.Slice.PartMut.{mid_of, put_mid, mid_len}
+use Rattle.path.specs.Model.{lists}
+use Rattle.build.specs.Inner.{clearedList}
+use Rattle.build.proofs.clear_between.Statement.{statement}
+use Rattle.build.proofs.clear_between.Tie as tie
 
-cleared : (k n : ℕ) (b part : List ℕ) → n ≤ length b → part ≡ replicate (length (midOf k (n - k) b)) 0 → putMid k (n - k) b part ≡ clearedList k n b
-cleared k n b part h e = ap (putMid k (n - k) b) (e ∙ ap (λ (m : ℕ). replicate m 0) (mid-len k n b h))
+cleared : (k n : ℕ) (b part : List ℕ) → n ≤ length b → part ≡ replicate (length (mid_of k (n - k) b)) 0 → put_mid k (n - k) b part ≡ clearedList k n b
+cleared k n b part h e = ap (put_mid k (n - k) b) (e ∙ ap (λ (m : ℕ). replicate m 0) (mid_len k n b h))
 
 returns : tie.Need-returns
 returns c =
-    let s = c .before .before .before .before .before .before .before .before .before .before .before .before .before .before .before in
-    let a = s .args in
-    let places = s .pre .places in
-    let x = cleared (a .start) (a .end) (a .sizes .now) _ (places .in-sizes) (c .before .before .before .before .before .before .before .before .before .before .clear .ensures) in
-    let y = cleared (a .start) (a .end) (a .losses .now) _ (places .in-losses) (c .before .before .before .before .before .before .clear2 .ensures) in
-    let z = cleared (a .start) (a .end) (a .weights .now) _ (places .in-weights) (c .before .before .clear3 .ensures) in
+    let s = c.before.before.before.before.before.before.before.before.before.before.before.before.before.before.before in
+    let a = s.args in
+    let places = s.requires.places in
+    let x = cleared a.start a.end a.sizes.now _ places.in-sizes c.before.before.before.before.before.before.before.before.before.before.clear.ensures in
+    let y = cleared a.start a.end a.losses.now _ places.in-losses c.before.before.before.before.before.before.clear2.ensures in
+    let z = cleared a.start a.end a.weights.now _ places.in-weights c.before.before.clear3.ensures in
     λ i. lists (x i) (y i) (z i)
 
 pub clear-between-spec : {M : Type 1} → statement M
 clear-between-spec =
     tie.close
     (tie.spec
-    (λ c. search needs)
-    (λ c. search needs)
-    (λ c. search needs)
-    (λ c. search needs)
-    (λ c κs. search needs)
-    (λ c. search needs)
-    (λ c. search needs)
-    (λ c. search needs)
-    (λ c. search needs)
-    (λ c κs. search needs)
-    (λ c. search needs)
-    (λ c. search needs)
-    (λ c. search needs)
-    (λ c. search needs)
-    (λ c κs. search needs)
-    (λ c. search needs)
-    (λ c. search needs)
-    (λ c. search needs)
+    (λ c. search rules)
+    (λ c. search rules)
+    (λ c. search rules)
+    (λ c. search rules)
+    (λ c κs. search rules)
+    (λ c. search rules)
+    (λ c. search rules)
+    (λ c. search rules)
+    (λ c. search rules)
+    (λ c κs. search rules)
+    (λ c. search rules)
+    (λ c. search rules)
+    (λ c. search rules)
+    (λ c. search rules)
+    (λ c κs. search rules)
+    (λ c. search rules)
+    (λ c. search rules)
+    (λ c. search rules)
     returns)

@@ -1,140 +1,140 @@
 -- `build::list_refusal` meets its contract. The loop's invariant: the models from i on are refused as the whole list is, and the last of
 -- the models entered is the last entry of the first i.
-use mathlib.Core.Path.{_≡_, ap, sym, _∙_}
+use mathlib.Core.Path.{◌≡◌, ap, sym, ◌∙◌}
 use mathlib.Core.Bool.{Bool}
-use Prim.Native.Nat.{ℕ, _+_, _-_, _≤_}
+use Prim.Native.Nat.{ℕ, ◌+◌, ◌-◌, ◌≤◌}
 use native.Mathlib.Omega.{arith}
 use borrow.Author.Tests.{not-true, not-false}
-use Rattle·path.specs.Model.{Lists, lists, modelAt, pathOf}
-use Rattle·path.specs.Update.{passedOver}
-use Rattle·path.specs.Refusal.{refusalOf, modelChecks}
-use Rattle·path.specs.Inner.{HasPlaces, PassesOver}
-use Rattle·path.proofs.Order.{places-parts, places-fewer, same-checks, same-passed-over}
-use Rattle·build·specs.specs.Build.{built, checksAt, listChecks}
-use Rattle·build·proofs.proofs.Lists.{none-left, bad-model, good-model, lacks-value, lacks-nothing, LastEntered, none-entered, entered-before, entered-now}
-use Rattle·build·proofs.proofs.list_refusal.Statement.{statement}
-use Rattle·build·proofs.proofs.list_refusal.Tie as tie
+use Rattle.path.specs.Model.{Lists, lists, model_at, pathOf}
+use Rattle.path.specs.Update.{passedOver}
+use Rattle.path.specs.Refusal.{refusalOf, modelChecks}
+use Rattle.path.specs.Inner.{HasPlaces, PassesOver}
+use Rattle.path.proofs.Order.{places-parts, places-fewer, same-checks, same-passed-over}
+use Rattle.build.specs.Build.{built, checksAt, listChecks}
+use Rattle.build.proofs.Lists.{none_left, bad-model, good-model, lacks-value, lacks-nothing, LastEntered, none-entered, entered-before, entered-now}
+use Rattle.build.proofs.list_refusal.Statement.{statement}
+use Rattle.build.proofs.list_refusal.Tie as tie
 
 -- Whether model i is passed over goes by the last of the models entered.
-judged : (t : Lists) (i j : ℕ) → LastEntered t i j → (r : Bool) → PassesOver (t .losses) j (modelAt t i .loss) r → passedOver (built t i) (modelAt t i) ≡ r
-judged t i j e r h = same-passed-over (built t i) (pathOf t j) e (modelAt t i) ∙ sym (h (t .sizes) (t .weights) (modelAt t i .size) (modelAt t i .weight))
+judged : (t : Lists) (i j : ℕ) → LastEntered t i j → (r : Bool) → PassesOver t.losses j (model_at t i).loss r → passedOver (built t i) (model_at t i) ≡ r
+judged t i j e r h = same-passed-over (built t i) (pathOf t j) e (model_at t i) ∙ sym (h t.sizes t.weights (model_at t i).size (model_at t i).weight)
 
-abbrev Inv-loop : tie.InvT-loop
-Inv-loop sizes losses weights count i₀ entered₀ i entered = (entered ≤ i) × (i ≤ count) × LastEntered (lists sizes losses weights) i entered × (refusalOf (listChecks (lists sizes losses weights) i (count - i)) ≡ refusalOf (listChecks (lists sizes losses weights) 0 count))
+abbrev invariant-loop : tie.invariant-loop
+invariant-loop sizes losses weights count i₀ entered₀ i entered = (entered ≤ i) × (i ≤ count) × LastEntered (lists sizes losses weights) i entered × (refusalOf (listChecks (lists sizes losses weights) i (count - i)) ≡ refusalOf (listChecks (lists sizes losses weights) 0 count))
 
-abbrev μ-loop : tie.MeasureT-loop
-μ-loop sizes losses weights count i₀ entered₀ i entered = count - i
+abbrev decreases-loop : tie.decreases-loop
+decreases-loop sizes losses weights count i₀ entered₀ i entered = count - i
 
 -- Model i lacks nothing.
-all-there : (c : tie.Else1 Inv-loop μ-loop) → HasPlaces (lists (c .before .before .before .before .before .before .before .args .sizes .now) (c .before .before .before .before .before .before .before .args .losses .now) (c .before .before .before .before .before .before .before .args .weights .now)) (c .before .before .before .loop .i + 1)
-all-there c =
-    let a = c .before .before .before .before .before .before .before .args in
-    let given = lists (a .sizes .now) (a .losses .now) (a .weights .now) in
-    places-parts given (c .before .before .before .loop .i + 1) (sym (c .before .lists-have-room .ensures) ∙ not-false _ (c .if1 .left))
+all_there : (c : tie.Else1 invariant-loop decreases-loop) → HasPlaces (lists c.before.before.before.before.before.before.before.args.sizes.now c.before.before.before.before.before.before.before.args.losses.now c.before.before.before.before.before.before.before.args.weights.now) (c.before.before.before.loop.i + 1)
+all_there c =
+    let a = c.before.before.before.before.before.before.before.args in
+    let given = lists a.sizes.now a.losses.now a.weights.now in
+    places-parts given (c.before.before.before.loop.i + 1) (sym c.before.lists-have-room.ensures ∙ not-false _ c.if1.false)
 
 -- What it is refused with goes by the last of the models entered.
-answered : (c : tie.After-model-refusal Inv-loop μ-loop) → refusalOf (checksAt (lists
-    (c .before .before .before .before .before .before .before .before .before .before .before .args .sizes .now)
-    (c .before .before .before .before .before .before .before .before .before .before .before .args .losses .now)
-    (c .before .before .before .before .before .before .before .before .before .before .before .args .weights .now)) (c .before .before .before .before .before .before .before .loop .i)) ≡ c .model-refusal .result
+answered : (c : tie.After-model-refusal invariant-loop decreases-loop) → refusalOf (checksAt (lists
+    c.before.before.before.before.before.before.before.before.before.before.before.args.sizes.now
+    c.before.before.before.before.before.before.before.before.before.before.before.args.losses.now
+    c.before.before.before.before.before.before.before.before.before.before.before.args.weights.now) c.before.before.before.before.before.before.before.loop.i) ≡ c.model-refusal.result
 answered c =
-    let a = c .before .before .before .before .before .before .before .before .before .before .before .args in
-    let given = lists (a .sizes .now) (a .losses .now) (a .weights .now) in
-    let lp = c .before .before .before .before .before .before .before .loop in
-    let m = modelAt given (lp .i) in
-    let path = pathOf given (lp .entered) in
-    lacks-nothing given (lp .i) (sym (c .before .before .before .before .before .lists-have-room .ensures) ∙ not-false _ (c .before .before .before .before .if1 .left))
-    ∙ same-checks (built given (lp .i)) path (lp .inv .2) m
-    ∙ sym {b = refusalOf (modelChecks path m)} (c .model-refusal .ensures)
+    let a = c.before.before.before.before.before.before.before.before.before.before.before.args in
+    let given = lists a.sizes.now a.losses.now a.weights.now in
+    let lp = c.before.before.before.before.before.before.before.loop in
+    let m = model_at given lp.i in
+    let path = pathOf given lp.entered in
+    lacks-nothing given lp.i (sym c.before.before.before.before.before.lists-have-room.ensures ∙ not-false _ c.before.before.before.before.if1.false)
+    ∙ same-checks (built given lp.i) path lp.invariant.2 m
+    ∙ sym {b = refusalOf (modelChecks path m)} c.model-refusal.ensures
 
-loop-holds : tie.Need-loop-holds Inv-loop μ-loop
+loop-holds : tie.Need-loop-init invariant-loop decreases-loop
 loop-holds c =
-    let a = c .before .before .before .args in
-    let given = lists (a .sizes .now) (a .losses .now) (a .weights .now) in
+    let a = c.before.before.before.args in
+    let given = lists a.sizes.now a.losses.now a.weights.now in
     (omega arith, omega arith, none-entered given, ap (λ (m : ℕ). refusalOf (listChecks given 0 m)) (omega arith))
 
-add-next : tie.Need-add-next Inv-loop μ-loop
+add-next : tie.Need-overflow-add-next invariant-loop decreases-loop
 add-next c = omega arith
 
-lists-have-room-requires : tie.Need-lists-have-room-requires Inv-loop μ-loop
+lists-have-room-requires : tie.Need-lists-have-room-requires invariant-loop decreases-loop
 lists-have-room-requires c κs = tt
 
-returns : tie.Need-returns Inv-loop μ-loop
+returns : tie.Need-returns invariant-loop decreases-loop
 returns c =
-    let a = c .before .before .before .before .before .before .before .args in
-    let given = lists (a .sizes .now) (a .losses .now) (a .weights .now) in
-    let lp = c .before .before .before .loop in
-    sym (bad-model given (lp .i) (a .count - lp .i) 5 (omega arith) (lacks-value given (lp .i) (sym (c .before .lists-have-room .ensures) ∙ not-true _ (c .if1 .taken))) (λ e. omega arith)) ∙ lp .inv .3
+    let a = c.before.before.before.before.before.before.before.args in
+    let given = lists a.sizes.now a.losses.now a.weights.now in
+    let lp = c.before.before.before.loop in
+    sym (bad-model given lp.i (a.count - lp.i) 5 (omega arith) (lacks-value given lp.i (sym c.before.lists-have-room.ensures ∙ not-true _ c.if1.true)) (λ e. omega arith)) ∙ lp.invariant.3
 
-mul-model-refusal : tie.Need-mul-model-refusal Inv-loop μ-loop
-mul-model-refusal c = omega (arith, all-there (c) .in-sizes)
+mul-model-refusal : tie.Need-overflow-mul-model-refusal invariant-loop decreases-loop
+mul-model-refusal c = omega (arith, (all_there (c)).in-sizes)
 
-shared-slice-read-model-refusal : tie.Need-shared-slice-read-model-refusal Inv-loop μ-loop
-shared-slice-read-model-refusal c = omega (arith, all-there (c .before) .in-sizes)
+shared-slice-read-model-refusal : tie.Need-shared-slice-read-model-refusal invariant-loop decreases-loop
+shared-slice-read-model-refusal c = omega (arith, (all_there c.before).in-sizes)
 
-mul-model-refusal-2 : tie.Need-mul-model-refusal-2 Inv-loop μ-loop
-mul-model-refusal-2 c = omega (arith, all-there (c .before) .in-losses)
+mul-model-refusal-2 : tie.Need-overflow-mul-model-refusal-2 invariant-loop decreases-loop
+mul-model-refusal-2 c = omega (arith, (all_there c.before).in-losses)
 
-shared-slice-read-model-refusal-2 : tie.Need-shared-slice-read-model-refusal-2 Inv-loop μ-loop
-shared-slice-read-model-refusal-2 c = omega (arith, all-there (c .before .before) .in-losses)
+shared-slice-read-model-refusal-2 : tie.Need-shared-slice-read-model-refusal-2 invariant-loop decreases-loop
+shared-slice-read-model-refusal-2 c = omega (arith, (all_there c.before.before).in-losses)
 
-mul-model-refusal-3 : tie.Need-mul-model-refusal-3 Inv-loop μ-loop
-mul-model-refusal-3 c = omega (arith, all-there (c .before .before) .in-weights)
+mul-model-refusal-3 : tie.Need-overflow-mul-model-refusal-3 invariant-loop decreases-loop
+mul-model-refusal-3 c = omega (arith, (all_there c.before.before).in-weights)
 
-shared-slice-read-model-refusal-3 : tie.Need-shared-slice-read-model-refusal-3 Inv-loop μ-loop
-shared-slice-read-model-refusal-3 c = omega (arith, all-there (c .before .before .before) .in-weights)
+shared-slice-read-model-refusal-3 : tie.Need-shared-slice-read-model-refusal-3 invariant-loop decreases-loop
+shared-slice-read-model-refusal-3 c = omega (arith, (all_there c.before.before.before).in-weights)
 
-model-refusal-requires : tie.Need-model-refusal-requires Inv-loop μ-loop
+model-refusal-requires : tie.Need-model-refusal-requires invariant-loop decreases-loop
 model-refusal-requires c κs =
-    let a = c .before .before .before .before .before .before .before .before .before .before .args in
-    places-fewer (lists (a .sizes .now) (a .losses .now) (a .weights .now)) (c .before .before .before .before .before .before .loop .i + 1) (c .before .before .before .before .before .before .loop .entered) (all-there (c .before .before .before)) (omega (arith, c .before .before .before .before .before .before .loop .inv .0))
+    let a = c.before.before.before.before.before.before.before.before.before.before.args in
+    places-fewer (lists a.sizes.now a.losses.now a.weights.now) (c.before.before.before.before.before.before.loop.i + 1) c.before.before.before.before.before.before.loop.entered (all_there c.before.before.before) (omega (arith, c.before.before.before.before.before.before.loop.invariant.0))
 
-returns-2 : tie.Need-returns-2 Inv-loop μ-loop
+returns-2 : tie.Need-returns-2 invariant-loop decreases-loop
 returns-2 c =
-    let a = c .before .before .before .before .before .before .before .before .before .before .before .before .args in
-    let given = lists (a .sizes .now) (a .losses .now) (a .weights .now) in
-    let lp = c .before .before .before .before .before .before .before .before .loop in
-    let r = c .before .model-refusal in
-    sym (bad-model given (lp .i) (a .count - lp .i) (r .result) (omega arith) (answered (c .before)) (c .if2 .taken)) ∙ lp .inv .3
+    let a = c.before.before.before.before.before.before.before.before.before.before.before.before.args in
+    let given = lists a.sizes.now a.losses.now a.weights.now in
+    let lp = c.before.before.before.before.before.before.before.before.loop in
+    let r = c.before.model-refusal in
+    sym (bad-model given lp.i (a.count - lp.i) r.result (omega arith) (answered c.before) c.if2.true) ∙ lp.invariant.3
 
-mul-passed-over : tie.Need-mul-passed-over Inv-loop μ-loop
-mul-passed-over c = omega (arith, all-there (c .before .before .before .before .before) .in-losses)
+mul-passed-over : tie.Need-overflow-mul-passed-over invariant-loop decreases-loop
+mul-passed-over c = omega (arith, (all_there c.before.before.before.before.before).in-losses)
 
-shared-slice-read-passed-over : tie.Need-shared-slice-read-passed-over Inv-loop μ-loop
-shared-slice-read-passed-over c = omega (arith, all-there (c .before .before .before .before .before .before) .in-losses)
+shared-slice-read-passed-over : tie.Need-shared-slice-read-passed-over invariant-loop decreases-loop
+shared-slice-read-passed-over c = omega (arith, (all_there c.before.before.before.before.before.before).in-losses)
 
-passed-over-requires : tie.Need-passed-over-requires Inv-loop μ-loop
-passed-over-requires c κs = omega (arith, all-there (c .before .before .before .before .before .before) .in-losses, c .before .before .before .before .before .before .before .before .before .loop .inv .0)
+passed-over-requires : tie.Need-passed-over-requires invariant-loop decreases-loop
+passed-over-requires c κs = omega (arith, (all_there c.before.before.before.before.before.before).in-losses, c.before.before.before.before.before.before.before.before.before.loop.invariant.0)
 
-loop-less : tie.Need-loop-less Inv-loop μ-loop
+loop-less : tie.Need-loop-smaller invariant-loop decreases-loop
 loop-less c = omega arith
 
-loop-again : tie.Need-loop-again Inv-loop μ-loop
+loop-again : tie.Need-loop-preserved invariant-loop decreases-loop
 loop-again c =
-    let a = c .before .before .before .before .before .before .before .before .before .before .before .before .before .before .before .args in
-    let given = lists (a .sizes .now) (a .losses .now) (a .weights .now) in
-    let lp = c .before .before .before .before .before .before .before .before .before .before .before .loop in
-    let f = judged given (lp .i) (lp .entered) (lp .inv .2) (c .before .passed-over .result) (c .before .passed-over .ensures) in
-    (omega arith, omega arith, entered-now given (lp .i) (f ∙ not-true _ (c .if3 .taken)), sym (good-model given (lp .i) (a .count - lp .i) (a .count - (lp .i + 1)) (omega arith) (answered (c .before .before .before .before) ∙ c .before .before .before .if2 .left)) ∙ lp .inv .3)
+    let a = c.before.before.before.before.before.before.before.before.before.before.before.before.before.before.before.args in
+    let given = lists a.sizes.now a.losses.now a.weights.now in
+    let lp = c.before.before.before.before.before.before.before.before.before.before.before.loop in
+    let f = judged given lp.i lp.entered lp.invariant.2 c.before.passed_over.result c.before.passed_over.ensures in
+    (omega arith, omega arith, entered-now given lp.i (f ∙ not-true _ c.if3.true), sym (good-model given lp.i (a.count - lp.i) (a.count - (lp.i + 1)) (omega arith) (answered c.before.before.before.before ∙ c.before.before.before.if2.false)) ∙ lp.invariant.3)
 
-loop-less-2 : tie.Need-loop-less-2 Inv-loop μ-loop
+loop-less-2 : tie.Need-loop-smaller-2 invariant-loop decreases-loop
 loop-less-2 c = omega arith
 
-loop-again-2 : tie.Need-loop-again-2 Inv-loop μ-loop
+loop-again-2 : tie.Need-loop-preserved-2 invariant-loop decreases-loop
 loop-again-2 c =
-    let a = c .before .before .before .before .before .before .before .before .before .before .before .before .before .before .before .args in
-    let given = lists (a .sizes .now) (a .losses .now) (a .weights .now) in
-    let lp = c .before .before .before .before .before .before .before .before .before .before .before .loop in
-    let f = judged given (lp .i) (lp .entered) (lp .inv .2) (c .before .passed-over .result) (c .before .passed-over .ensures) in
-    (omega (arith, lp .inv .0), omega arith, entered-before given (lp .i) (lp .entered) (lp .inv .2) (f ∙ not-false _ (c .if3 .left)), sym (good-model given (lp .i) (a .count - lp .i) (a .count - (lp .i + 1)) (omega arith) (answered (c .before .before .before .before) ∙ c .before .before .before .if2 .left)) ∙ lp .inv .3)
+    let a = c.before.before.before.before.before.before.before.before.before.before.before.before.before.before.before.args in
+    let given = lists a.sizes.now a.losses.now a.weights.now in
+    let lp = c.before.before.before.before.before.before.before.before.before.before.before.loop in
+    let f = judged given lp.i lp.entered lp.invariant.2 c.before.passed_over.result c.before.passed_over.ensures in
+    (omega (arith, lp.invariant.0), omega arith, entered-before given lp.i lp.entered lp.invariant.2 (f ∙ not-false _ c.if3.false), sym (good-model given lp.i (a.count - lp.i) (a.count - (lp.i + 1)) (omega arith) (answered c.before.before.before.before ∙ c.before.before.before.if2.false)) ∙ lp.invariant.3)
 
-returns-3 : tie.Need-returns-3 Inv-loop μ-loop
+returns-3 : tie.Need-returns-3 invariant-loop decreases-loop
 returns-3 c =
-    let a = c .before .before .before .before .before .args in
-    let given = lists (a .sizes .now) (a .losses .now) (a .weights .now) in
-    let lp = c .before .loop in
-    sym (none-left given (lp .i) (a .count - lp .i) (omega arith)) ∙ lp .inv .3
+    let a = c.before.before.before.before.before.args in
+    let given = lists a.sizes.now a.losses.now a.weights.now in
+    let lp = c.before.loop in
+    sym (none_left given lp.i (a.count - lp.i) (omega arith)) ∙ lp.invariant.3
 
 pub list-refusal-spec : {M : Type 1} → statement M
-list-refusal-spec = tie.close (tie.spec Inv-loop μ-loop loop-holds add-next lists-have-room-requires returns mul-model-refusal shared-slice-read-model-refusal mul-model-refusal-2
+list-refusal-spec = tie.close (tie.spec invariant-loop decreases-loop loop-holds add-next lists-have-room-requires returns mul-model-refusal shared-slice-read-model-refusal mul-model-refusal-2
     shared-slice-read-model-refusal-2 mul-model-refusal-3 shared-slice-read-model-refusal-3 model-refusal-requires returns-2 mul-passed-over shared-slice-read-passed-over passed-over-requires loop-less loop-again loop-less-2 loop-again-2 returns-3)

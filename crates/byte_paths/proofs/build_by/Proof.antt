@@ -1,95 +1,95 @@
 -- `byte_paths::build_by` meets its contract: refused under 11, or the build in lists of as many items as are looked at.
-use mathlib.Core.Path.{_≡_, refl, ap, sym, _∙_}
-use Prim.Native.Nat.{ℕ, _+_}
+use mathlib.Core.Path.{◌≡◌, refl, ap, sym, ◌∙◌}
+use Prim.Native.Nat.{ℕ, ◌+◌}
 use native.Mathlib.Omega.{arith}
-use Rattle·coding.specs.Coding.{outcome}
-use Rattle·coding.specs.Models.{modelsCoding}
-use Rattle·coding.proofs.Strings.{front-length}
-use Rattle·coding.proofs.Models.{models-held, fronts-fit}
-use Rattle·coding.proofs.Calls.{eleven}
-use Rattle·path.specs.Model.{Lists, lists}
-use Rattle·path.specs.declared.PathResult.{PathResult}
-use Rattle·byte_paths·specs.specs.Paths.{pathAnswers, buildCall}
-use Rattle·byte_paths·specs.specs.Inner.{modelsRead}
-use borrow.Author.Needs.{needs}
-use Rattle·byte_paths·proofs.proofs.build_by.Statement.{statement}
-use Rattle·byte_paths·proofs.proofs.build_by.Tie as tie
+use Rattle.coding.specs.Coding.{outcome}
+use Rattle.coding.specs.Models.{modelsCoding}
+use Rattle.coding.proofs.Strings.{front_length}
+use Rattle.coding.proofs.Models.{models-held, fronts-fit}
+use Rattle.coding.proofs.Calls.{eleven}
+use Rattle.path.specs.Model.{Lists, lists}
+use Rattle.path.specs.declared.PathResult.{PathResult}
+use Rattle.byte_paths.specs.Paths.{pathAnswers, buildCall}
+use Rattle.byte_paths.specs.Inner.{modelsRead}
+use borrow.Author.Rules.{rules}
+use Rattle.byte_paths.proofs.build_by.Statement.{statement}
+use Rattle.byte_paths.proofs.build_by.Tie as tie
 
 -- The six remainders that the code adds up, as those of the models and those of the path.
-none-over : (a b c d e f : ℕ) → a + b + c + d + e + f ≡ 0 → a + (b + c) + (d + (e + f)) ≡ 0
-none-over a b c d e f h = omega arith
+none_over : (a b c d e f : ℕ) → a + b + c + d + e + f ≡ 0 → a + (b + c) + (d + (e + f)) ≡ 0
+none_over a b c d e f h = omega arith
 
 abbrev given : tie.Start → Lists
-given s = lists (s .args .sizes .now) (s .args .losses .now) (s .args .weights .now)
+given s = lists s.args.sizes.now s.args.losses.now s.args.weights.now
 
 abbrev lent : tie.Start → Lists
-lent s = lists (s .args .path-sizes .now) (s .args .path-losses .now) (s .args .path-weights .now)
+lent s = lists s.args.path-sizes.now s.args.path-losses.now s.args.path-weights.now
 
 -- What was lent holds bytes.
-held : (c : tie.After-slice-known3) → modelsCoding .Held (given (c .before .before .before .before .before .before)) × modelsCoding .Held (lent (c .before .before .before .before .before .before))
+held : (c : tie.After-slice-known3) → modelsCoding.Held (given c.before.before.before.before.before.before) × modelsCoding.Held (lent c.before.before.before.before.before.before)
 held c =
-    let k = c .before .before .before in
-    let s = k .before .before .before in (
-      models-held (given s) (k .before .before .shared-slice-known .given) (k .before .shared-slice-known2 .given) (k .shared-slice-known3 .given),
-      models-held (lent s) (c .before .before .slice-known .given) (c .before .slice-known2 .given) (c .slice-known3 .given),
+    let k = c.before.before.before in
+    let s = k.before.before.before in (
+      models-held (given s) k.before.before.shared-slice-known.given k.before.shared-slice-known2.given k.shared-slice-known3.given,
+      models-held (lent s) c.before.before.slice-known.given c.before.slice-known2.given c.slice-known3.given,
     )
 
 returns : tie.Need-returns
 returns c =
-    let s = c .before .before .before .before .before .before .before .before in (
-      ap (λ (r : PathResult). outcome r (lent s)) (c .refuse .ensures)
-          ∙ eleven modelsCoding modelsCoding pathAnswers (buildCall (s .args .older)) (given s) (lent s) (λ e. c .before .if1 .taken (omega arith)),
-      held (c .before .before),
+    let s = c.before.before.before.before.before.before.before.before in (
+      ap (λ (r : PathResult). outcome r (lent s)) c.refuse.ensures
+          ∙ eleven modelsCoding modelsCoding pathAnswers (buildCall s.args.older) (given s) (lent s) (λ e. c.before.if1.true (omega arith)),
+      held c.before.before,
     )
 
 array-borrow-prefix-size-items : tie.Need-array-borrow-prefix-size-items
-array-borrow-prefix-size-items c = omega (arith, c .before .before .before .before .before .smaller .ensures)
+array-borrow-prefix-size-items c = omega (arith, c.before.before.before.before.before.smaller.ensures)
 
 slice-aggregate-build-items : tie.Need-slice-aggregate-build-items
-slice-aggregate-build-items c = sym (front-length {A = ℕ} 0 modelsRead _ (omega (arith, c .before .before .before .before .before .before .smaller .ensures)))
+slice-aggregate-build-items c = sym (front_length {A = ℕ} 0 modelsRead _ (omega (arith, c.before.before.before.before.before.before.smaller.ensures)))
 
 array-borrow-prefix-loss-items : tie.Need-array-borrow-prefix-loss-items
-array-borrow-prefix-loss-items c = omega (arith, c .before .before .before .before .before .smaller2 .ensures)
+array-borrow-prefix-loss-items c = omega (arith, c.before.before.before.before.before.smaller2.ensures)
 
 slice-aggregate-build-items-2 : tie.Need-slice-aggregate-build-items-2
-slice-aggregate-build-items-2 c = sym (front-length {A = ℕ} 0 modelsRead _ (omega (arith, c .before .before .before .before .before .before .smaller2 .ensures)))
+slice-aggregate-build-items-2 c = sym (front_length {A = ℕ} 0 modelsRead _ (omega (arith, c.before.before.before.before.before.before.smaller2.ensures)))
 
 array-borrow-prefix-weight-items : tie.Need-array-borrow-prefix-weight-items
-array-borrow-prefix-weight-items c = omega (arith, c .before .before .before .before .before .smaller3 .ensures)
+array-borrow-prefix-weight-items c = omega (arith, c.before.before.before.before.before.smaller3.ensures)
 
 slice-aggregate-build-items-3 : tie.Need-slice-aggregate-build-items-3
-slice-aggregate-build-items-3 c = sym (front-length {A = ℕ} 0 modelsRead _ (omega (arith, c .before .before .before .before .before .before .smaller3 .ensures)))
+slice-aggregate-build-items-3 c = sym (front_length {A = ℕ} 0 modelsRead _ (omega (arith, c.before.before.before.before.before.before.smaller3.ensures)))
 
 build-items-requires : tie.Need-build-items-requires
 build-items-requires c κs =
-    let s = c .before .before .before .before .before .before .before .before .before .before .before .before .before .before .before .before in
-    let x = c .before .before .before .before .before .before .before .before .smaller in
-    let y = c .before .before .before .before .before .before .before .smaller2 in
-    let z = c .before .before .before .before .before .before .smaller3 in
+    let s = c.before.before.before.before.before.before.before.before.before.before.before.before.before.before.before.before in
+    let x = c.before.before.before.before.before.before.before.before.smaller in
+    let y = c.before.before.before.before.before.before.before.smaller2 in
+    let z = c.before.before.before.before.before.before.smaller3 in
     record {
-      whole = none-over _ _ _ _ _ _ (c .before .before .before .before .before .before .before .before .before .if1 .left);
-      given = fronts-fit (given s) modelsRead _ (x .ensures) (y .ensures) (z .ensures) refl (omega arith);
+      whole = none_over _ _ _ _ _ _ c.before.before.before.before.before.before.before.before.before.if1.false;
+      given = fronts-fit (given s) modelsRead _ x.ensures y.ensures z.ensures refl (omega arith);
     }
 
 returns-2 : tie.Need-returns-2
 returns-2 c =
-    let w = c .before .before .before .before .before .before .before .before .before in
-    (w .build-items .ensures, held (w .before .before .before .before .before .before .before .before .before .before .before))
+    let w = c.before.before.before.before.before.before.before.before.before in
+    (w.build-items.ensures, held w.before.before.before.before.before.before.before.before.before.before.before)
 
 pub build-by-spec : {M : Type 1} → statement M
 build-by-spec =
     tie.close
     (tie.spec
-    (λ c. search needs)
-    (λ c. search needs)
-    (λ c. search needs)
-    (λ c. search needs)
-    (λ c. search needs)
-    (λ c κs. search needs)
+    (λ c. search rules)
+    (λ c. search rules)
+    (λ c. search rules)
+    (λ c. search rules)
+    (λ c. search rules)
+    (λ c κs. search rules)
     returns
-    (λ c κs. search needs)
-    (λ c κs. search needs)
-    (λ c κs. search needs)
+    (λ c κs. search rules)
+    (λ c κs. search rules)
+    (λ c κs. search rules)
     array-borrow-prefix-size-items
     slice-aggregate-build-items
     array-borrow-prefix-loss-items
@@ -97,7 +97,7 @@ build-by-spec =
     array-borrow-prefix-weight-items
     slice-aggregate-build-items-3
     build-items-requires
-    (λ c. search needs)
-    (λ c. search needs)
-    (λ c. search needs)
+    (λ c. search rules)
+    (λ c. search rules)
+    (λ c. search rules)
     returns-2)

@@ -1,101 +1,99 @@
 -- `byte_signals::path_items` meets its contract: five lists are read, the path call is made on them, and three are encoded.
-use mathlib.Core.Path.{refl, ap, _∙_}
-use Rattle·coding.proofs.Models.{models-held, models-fit, models-hold}
-use Rattle·coding.proofs.Calls.{returned}
-use Rattle·path.specs.Model.{lists}
-use Rattle·signal.specs.SignalPath.{pathBuffers}
-use Rattle·byte_signals·specs.specs.Signals.{signalStrings, signalNumbers, signalPathAnswers, signalPathTold, signalPathCall}
-use Rattle·byte_signals·proofs.proofs.SignalPaths.{signalCut, pathCut, signal-path-cut}
-use borrow.Author.Needs.{needs}
-use Rattle·byte_signals·proofs.proofs.path_items.Statement.{statement}
-use Rattle·byte_signals·proofs.proofs.path_items.Tie as tie
+use mathlib.Core.Path.{refl, ap, ◌∙◌}
+use Rattle.coding.proofs.Models.{models-held, models-fit, models-hold}
+use Rattle.coding.proofs.Calls.{returned}
+use Rattle.path.specs.Model.{lists}
+use Rattle.signal.specs.SignalPath.{pathBuffers}
+use Rattle.byte_signals.specs.Signals.{signalStrings, signalNumbers, signalPathAnswers, signalPathTold, signalPathCall}
+use Rattle.byte_signals.proofs.SignalPaths.{signalCut, pathCut, signal-path-cut}
+use borrow.Author.Rules.{rules}
+use Rattle.byte_signals.proofs.path_items.Statement.{statement}
+use Rattle.byte_signals.proofs.path_items.Tie as tie
 
 read-weights-requires : tie.Need-read-weights-requires
 read-weights-requires c κs =
-    let start = c .before .before .before .before .before .before .before .before .before .before .before .before .before .before in
-    start .pre .input .weights-fit
+    let start = c.before.before.before.before.before.before.before.before.before.before.before.before.before.before in
+    start.requires.input.weights-fit
 
 read-models-requires : tie.Need-read-models-requires
 read-models-requires c κs =
-    let start = c .before .before .before .before .before .before .before .before .before .before .before .before .before .before .before .before .before .before .before .before .before .before .before in
-    let a = start .args in
-    models-hold (lists (a .path-sizes .now) (a .path-losses .now) (a .path-weights .now)) (start .pre .fit) refl refl refl
+    let start = c.before.before.before.before.before.before.before.before.before.before.before.before.before.before.before.before.before.before.before.before.before.before.before in
+    let a = start.args in
+    models-hold (lists a.path-sizes.now a.path-losses.now a.path-weights.now) start.requires.fit refl refl refl
 
 encode-models-requires : tie.Need-encode-models-requires
 encode-models-requires c κs =
-    let at-signal-path = c .before .before .before .before .before .before .before .before .before .before .before .before .before .before in
-    let at-read-models = at-signal-path .before .before .before .before .before .before .before .before .before .before .before .before .before in
-    let start = at-read-models .before .before .before .before .before .before .before .before .before .before .before .before .before .before .before .before .before .before .before .before .before .before .before .before in
-    let a = start .args in
-    let made = at-signal-path .signal-path .kept .1 .1 .1 .1 in
-    let models = at-read-models .read-models .kept .1 .1 .1 in
-    models-hold (lists (a .path-sizes .now) (a .path-losses .now) (a .path-weights .now)) (start .pre .fit)
-    (made .0 ∙ models .0) (made .1 .0 ∙ models .1 .0) (made .1 .1 .0 ∙ models .1 .1 .0)
+    let at-signal-path = c.before.before.before.before.before.before.before.before.before.before.before.before.before.before in
+    let at-read-models = at-signal-path.before.before.before.before.before.before.before.before.before.before.before.before.before in
+    let start = at-read-models.before.before.before.before.before.before.before.before.before.before.before.before.before.before.before.before.before.before.before.before.before.before.before.before in
+    let a = start.args in
+    let made = at-signal-path.signal-path.auto.1.1.1.1 in
+    let models = at-read-models.read-models.auto.1.1.1 in
+    models-hold (lists a.path-sizes.now a.path-losses.now a.path-weights.now) start.requires.fit
+    (made.0 ∙ models.0) (made.1.0 ∙ models.1.0) (made.1.1.0 ∙ models.1.1.0)
 
 same-length-5 : tie.Need-same-length-5
 same-length-5 c =
-    let at-read-i16s = c .before .before .before .before .before .before .before .before .before .before .before .before .before .before .before .before .before .before .before
-    .before .before .before .before .before .before .before .before .before .before .before .before .before .before .before .before .before .before .before .before .before .before .before .before .before .before .before in
-    at-read-i16s .read-i16s .kept .1 .0
+    let at-read-i16s = c.before.before.before.before.before.before.before.before.before.before.before.before.before.before.before.before.before.before.before.before.before.before.before.before.before.before.before.before.before.before.before.before.before.before.before.before.before.before.before.before.before.before.before.before.before.before in
+    at-read-i16s.read-i16s.kept.1.0
 
 same-length-6 : tie.Need-same-length-6
 same-length-6 c =
-    let at-read-weights = c .before .before .before .before .before .before .before .before .before .before .before .before .before .before .before .before .before .before .before
-    .before .before .before .before .before .before .before .before .before .before .before .before .before .before .before .before .before .before .before .before .before .before .before .before in
-    at-read-weights .read-weights .kept .1 .0
+    let at-read-weights = c.before.before.before.before.before.before.before.before.before.before.before.before.before.before.before.before.before.before.before.before.before.before.before.before.before.before.before.before.before.before.before.before.before.before.before.before.before.before.before.before.before.before.before in
+    at-read-weights.read-weights.kept.1.0
 
 returns : tie.Need-returns
 returns c =
-    let at-encode-models = c .before .before .before .before .before .before in
-    let at-signal-path = at-encode-models .before .before .before .before .before .before .before .before .before .before .before .before .before .before .before in
-    let at-read-models = at-signal-path .before .before .before .before .before .before .before .before .before .before .before .before .before in
-    let at-read-weights = at-read-models .before .before .before .before .before .before .before .before .before in
-    let at-read-i16s = at-read-weights .before .before .before in
-    let at-slice-known3 = at-read-i16s .before .before .before .before .before .before .before in
-    let at-slice-known2 = at-slice-known3 .before in
-    let at-slice-known = at-slice-known2 .before in
-    let start = at-slice-known .before .before .before in
-    let written = at-encode-models .encode-models .ensures in
-    let made = at-signal-path .signal-path in
-    let models = at-read-models .read-models in
-    let a = start .args in
-    let pre = start .pre in
-    let after = made .last .1 .1 .1 .1 in
-    let stays = made .kept .1 .1 .1 .1 in
-    let long = models .kept .1 .1 .1 in
-    let items = lists (a .size-items .now) (a .loss-items .now) (a .path-weight-items .now) in
-    let left = lists (after .0) (after .1 .0) (after .1 .1 .0) in
-    let strings = lists (a .path-sizes .now) (a .path-losses .now) (a .path-weights .now) in
-    let read = signalNumbers (a .sample-items .now) (a .weight-items .now) in
-    let call = signalPathCall (a .max-segments) (a .min-segment-len) in
-    let input = signalStrings (a .samples .now) (a .weights .now) in
-    returned signalCut pathCut signalPathAnswers call input (pathBuffers strings (a .scratch .now)) (pre .whole)
-    (models-held strings (at-slice-known .slice-known .given) (at-slice-known2 .slice-known2 .given) (at-slice-known3 .slice-known3 .given), tt)
-    (signal-path-cut (a .max-segments) (a .min-segment-len) _ _) read
-    (pathBuffers items (a .scratch .now)) (pathBuffers left (after .1 .1 .1 .0)) (made .result)
-    (ap signalPathTold (made .ensures .0)
-    ∙ (λ i. call (signalNumbers (at-read-i16s .read-i16s .ensures i) (at-read-weights .read-weights .ensures i))
-    (pathBuffers (lists (models .ensures .sizes-are i) (models .ensures .losses-are i) (models .ensures .weights-are i)) (a .scratch .now))))
-    (pre .input .samples-fit, tt) (models-fit strings (pre .fit) items refl refl refl, tt)
-    (models-fit strings (pre .fit) left (stays .0 ∙ long .0) (stays .1 .0 ∙ long .1 .0) (stays .1 .1 .0 ∙ long .1 .1 .0), tt)
-    _ (λ i. pathBuffers (lists (written .sizes-are i) (written .losses-are i) (written .weights-are i)) (after .1 .1 .1 .0))
+    let at-encode-models = c.before.before.before.before.before.before in
+    let at-signal-path = at-encode-models.before.before.before.before.before.before.before.before.before.before.before.before.before.before.before in
+    let at-read-models = at-signal-path.before.before.before.before.before.before.before.before.before.before.before.before.before in
+    let at-read-weights = at-read-models.before.before.before.before.before.before.before.before.before in
+    let at-read-i16s = at-read-weights.before.before.before in
+    let at-slice-known3 = at-read-i16s.before.before.before.before.before.before.before in
+    let at-slice-known2 = at-slice-known3.before in
+    let at-slice-known = at-slice-known2.before in
+    let start = at-slice-known.before.before.before in
+    let written = at-encode-models.encode-models.ensures in
+    let made = at-signal-path.signal-path in
+    let models = at-read-models.read-models in
+    let a = start.args in
+    let pre = start.requires in
+    let after = made.new.1.1.1.1 in
+    let stays = made.auto.1.1.1.1 in
+    let long = models.auto.1.1.1 in
+    let items = lists a.size-items.now a.loss-items.now a.path-weight-items.now in
+    let left = lists after.0 after.1.0 after.1.1.0 in
+    let strings = lists a.path-sizes.now a.path-losses.now a.path-weights.now in
+    let read = signalNumbers a.sample-items.now a.weight-items.now in
+    let call = signalPathCall a.max-segments a.min-segment-len in
+    let input = signalStrings a.samples.now a.weights.now in
+    returned signalCut pathCut signalPathAnswers call input (pathBuffers strings a.scratch.now) pre.whole
+    (models-held strings at-slice-known.slice-known.given at-slice-known2.slice-known2.given at-slice-known3.slice-known3.given, tt)
+    (signal-path-cut a.max-segments a.min-segment-len _ _) read
+    (pathBuffers items a.scratch.now) (pathBuffers left after.1.1.1.0) made.result
+    (ap signalPathTold made.ensures.0
+    ∙ (λ i. call (signalNumbers (at-read-i16s.read-i16s.ensures i) (at-read-weights.read-weights.ensures i))
+    (pathBuffers (lists (models.ensures.sizes-are i) (models.ensures.losses-are i) (models.ensures.weights-are i)) a.scratch.now)))
+    (pre.input.samples-fit, tt) (models-fit strings pre.fit items refl refl refl, tt)
+    (models-fit strings pre.fit left (stays.0 ∙ long.0) (stays.1.0 ∙ long.1.0) (stays.1.1.0 ∙ long.1.1.0), tt)
+    _ (λ i. pathBuffers (lists (written.sizes-are i) (written.losses-are i) (written.weights-are i)) after.1.1.1.0)
 
 pub path-items-spec : {M : Type 1} → statement M
 path-items-spec =
     tie.close
     (tie.spec
-    (λ c κs. search needs)
+    (λ c κs. search rules)
     read-weights-requires
     read-models-requires
-    (λ c κs. search needs)
+    (λ c κs. search rules)
     encode-models-requires
-    (λ c. search needs)
-    (λ c. search needs)
-    (λ c. search needs)
-    (λ c. search needs)
+    (λ c. search rules)
+    (λ c. search rules)
+    (λ c. search rules)
+    (λ c. search rules)
     same-length-5
     same-length-6
-    (λ c. search needs)
-    (λ c. search needs)
-    (λ c. search needs)
+    (λ c. search rules)
+    (λ c. search rules)
+    (λ c. search rules)
     returns)

@@ -3,109 +3,109 @@ use mathlib.Core.Path.{refl, sym}
 use Prim.Native.Nat.{ℕ}
 use native.Mathlib.Omega.{arith}
 use lib.IntN.{ℤ, pos}
-use Rattle·least.specs.Segmentation.{maxSegments}
-use Rattle·coding.proofs.Strings.{bytes-held, front-length, front-fits}
-use Rattle·coding.proofs.Models.{models-held, fronts-fit}
-use Rattle·coding.proofs.Calls.{eleven}
-use Rattle·path.specs.Model.{Lists, lists}
-use Rattle·signal.specs.SignalPath.{PathBuffers, pathBuffers}
-use Rattle·byte_signals·specs.specs.Signals.{SignalStrings, signalStrings, signalCoding, pathCoding, signalPathAnswers, signalPathCall}
-use Rattle·byte_signals·specs.specs.Inner.{readSamples, readWeights}
-use borrow.Author.Needs.{needs}
-use Rattle·byte_signals·proofs.proofs.signal_path.Statement.{statement}
-use Rattle·byte_signals·proofs.proofs.signal_path.Tie as tie
+use Rattle.least.specs.Segmentation.{maxSegments}
+use Rattle.coding.proofs.Strings.{bytes-held, front_length, front_fits}
+use Rattle.coding.proofs.Models.{models-held, fronts-fit}
+use Rattle.coding.proofs.Calls.{eleven}
+use Rattle.path.specs.Model.{Lists, lists}
+use Rattle.signal.specs.SignalPath.{PathBuffers, pathBuffers}
+use Rattle.byte_signals.specs.Signals.{SignalStrings, signalStrings, signalCoding, pathCoding, signalPathAnswers, signalPathCall}
+use Rattle.byte_signals.specs.Inner.{readSamples, readWeights}
+use borrow.Author.Rules.{rules}
+use Rattle.byte_signals.proofs.signal_path.Statement.{statement}
+use Rattle.byte_signals.proofs.signal_path.Tie as tie
 
 abbrev input : tie.Start → SignalStrings
-input s = signalStrings (s .args .samples .now) (s .args .weights .now)
+input s = signalStrings s.args.samples.now s.args.weights.now
 
 abbrev strings : tie.Start → Lists
-strings s = lists (s .args .path-sizes .now) (s .args .path-losses .now) (s .args .path-weights .now)
+strings s = lists s.args.path-sizes.now s.args.path-losses.now s.args.path-weights.now
 
 abbrev lent : tie.Start → PathBuffers
-lent s = pathBuffers (strings s) (s .args .scratch .now)
+lent s = pathBuffers (strings s) s.args.scratch.now
 
 -- What was lent holds bytes.
-held : (c : tie.After-slice-known4) → signalCoding .Held (input (c .before .before .before .before .before .before)) × pathCoding .Held (lent (c .before .before .before .before .before .before))
+held : (c : tie.After-slice-known4) → signalCoding.Held (input c.before.before.before.before.before.before) × pathCoding.Held (lent c.before.before.before.before.before.before)
 held c =
-    let k = c .before .before .before .before in
-    let s = k .before .before in (
-      (bytes-held (input s .samples) (k .before .shared-slice-known .given), bytes-held (input s .weights) (k .shared-slice-known2 .given)),
-      (models-held (strings s) (c .before .before .before .slice-known .given) (c .before .before .slice-known2 .given) (c .before .slice-known3 .given), tt),
+    let k = c.before.before.before.before in
+    let s = k.before.before in (
+      (bytes-held (input s).samples k.before.shared-slice-known.given, bytes-held (input s).weights k.shared-slice-known2.given),
+      (models-held (strings s) c.before.before.before.slice-known.given c.before.before.slice-known2.given c.before.slice-known3.given, tt),
     )
 
 returns : tie.Need-returns
 returns c =
-    let s = c .before .before .before .before .before .before .before in
-    let call = signalPathCall (s .args .max-segments) (s .args .min-segment-len) in
-    (eleven signalCoding pathCoding signalPathAnswers call (input s) (lent s) (λ e. c .if1 .taken (omega arith)), held (c .before))
+    let s = c.before.before.before.before.before.before.before in
+    let call = signalPathCall s.args.max-segments s.args.min-segment-len in
+    (eleven signalCoding pathCoding signalPathAnswers call (input s) (lent s) (λ e. c.if1.true (omega arith)), held c.before)
 
 array-borrow-prefix-sample-items : tie.Need-array-borrow-prefix-sample-items
-array-borrow-prefix-sample-items c = omega (arith, c .before .before .before .before .before .before .before .before .smaller .ensures)
+array-borrow-prefix-sample-items c = omega (arith, c.before.before.before.before.before.before.before.before.smaller.ensures)
 
 slice-aggregate-path-items : tie.Need-slice-aggregate-path-items
-slice-aggregate-path-items c = sym (front-length {A = ℤ} (pos 0) readSamples _ (omega (arith, c .before .before .before .before .before .before .before .before .before .smaller .ensures)))
+slice-aggregate-path-items c = sym (front_length {A = ℤ} (pos 0) readSamples _ (omega (arith, c.before.before.before.before.before.before.before.before.before.smaller.ensures)))
 
 array-borrow-prefix-weight-items : tie.Need-array-borrow-prefix-weight-items
-array-borrow-prefix-weight-items c = omega (arith, c .before .before .before .before .before .before .before .before .smaller2 .ensures)
+array-borrow-prefix-weight-items c = omega (arith, c.before.before.before.before.before.before.before.before.smaller2.ensures)
 
 slice-aggregate-path-items-2 : tie.Need-slice-aggregate-path-items-2
-slice-aggregate-path-items-2 c = sym (front-length {A = ℕ} 0 readWeights _ (omega (arith, c .before .before .before .before .before .before .before .before .before .smaller2 .ensures)))
+slice-aggregate-path-items-2 c = sym (front_length {A = ℕ} 0 readWeights _ (omega (arith, c.before.before.before.before.before.before.before.before.before.smaller2.ensures)))
 
 array-borrow-prefix-size-items : tie.Need-array-borrow-prefix-size-items
-array-borrow-prefix-size-items c = omega (arith, c .before .before .before .before .before .before .before .before .smaller3 .ensures)
+array-borrow-prefix-size-items c = omega (arith, c.before.before.before.before.before.before.before.before.smaller3.ensures)
 
 slice-aggregate-path-items-3 : tie.Need-slice-aggregate-path-items-3
-slice-aggregate-path-items-3 c = sym (front-length {A = ℕ} 0 maxSegments _ (omega (arith, c .before .before .before .before .before .before .before .before .before .smaller3 .ensures)))
+slice-aggregate-path-items-3 c = sym (front_length {A = ℕ} 0 maxSegments _ (omega (arith, c.before.before.before.before.before.before.before.before.before.smaller3.ensures)))
 
 array-borrow-prefix-loss-items : tie.Need-array-borrow-prefix-loss-items
-array-borrow-prefix-loss-items c = omega (arith, c .before .before .before .before .before .before .before .before .smaller4 .ensures)
+array-borrow-prefix-loss-items c = omega (arith, c.before.before.before.before.before.before.before.before.smaller4.ensures)
 
 slice-aggregate-path-items-4 : tie.Need-slice-aggregate-path-items-4
-slice-aggregate-path-items-4 c = sym (front-length {A = ℕ} 0 maxSegments _ (omega (arith, c .before .before .before .before .before .before .before .before .before .smaller4 .ensures)))
+slice-aggregate-path-items-4 c = sym (front_length {A = ℕ} 0 maxSegments _ (omega (arith, c.before.before.before.before.before.before.before.before.before.smaller4.ensures)))
 
 array-borrow-prefix-path-weight-items : tie.Need-array-borrow-prefix-path-weight-items
-array-borrow-prefix-path-weight-items c = omega (arith, c .before .before .before .before .before .before .before .before .smaller5 .ensures)
+array-borrow-prefix-path-weight-items c = omega (arith, c.before.before.before.before.before.before.before.before.smaller5.ensures)
 
 slice-aggregate-path-items-5 : tie.Need-slice-aggregate-path-items-5
-slice-aggregate-path-items-5 c = sym (front-length {A = ℕ} 0 maxSegments _ (omega (arith, c .before .before .before .before .before .before .before .before .before .smaller5 .ensures)))
+slice-aggregate-path-items-5 c = sym (front_length {A = ℕ} 0 maxSegments _ (omega (arith, c.before.before.before.before.before.before.before.before.before.smaller5.ensures)))
 
 path-items-requires : tie.Need-path-items-requires
 path-items-requires c κs =
-    let at-smaller5 = c .before .before .before .before .before .before .before .before .before in
-    let at-smaller4 = at-smaller5 .before in
-    let at-smaller3 = at-smaller4 .before in
-    let at-smaller2 = at-smaller3 .before in
-    let at-smaller = at-smaller2 .before in
-    let at-else1 = at-smaller .before in
-    let start = at-else1 .before .before .before .before .before .before .before in
+    let at-smaller5 = c.before.before.before.before.before.before.before.before.before in
+    let at-smaller4 = at-smaller5.before in
+    let at-smaller3 = at-smaller4.before in
+    let at-smaller2 = at-smaller3.before in
+    let at-smaller = at-smaller2.before in
+    let at-else1 = at-smaller.before in
+    let start = at-else1.before.before.before.before.before.before.before in
     record {
-      whole = omega (arith, at-else1 .if1 .left);
+      whole = omega (arith, at-else1.if1.false);
       input = record {
-        samples-fit = front-fits {A = ℤ} (pos 0) readSamples _ _ (at-smaller .smaller .ensures) refl (omega arith);
-        weights-fit = front-fits {A = ℕ} 0 readWeights _ _ (at-smaller2 .smaller2 .ensures) refl (omega arith);
+        samples-fit = front_fits {A = ℤ} (pos 0) readSamples _ _ at-smaller.smaller.ensures refl (omega arith);
+        weights-fit = front_fits {A = ℕ} 0 readWeights _ _ at-smaller2.smaller2.ensures refl (omega arith);
       };
-      fit = fronts-fit (strings start) maxSegments maxSegments (at-smaller3 .smaller3 .ensures) (at-smaller4 .smaller4 .ensures) (at-smaller5 .smaller5 .ensures) refl (omega arith);
+      fit = fronts-fit (strings start) maxSegments maxSegments at-smaller3.smaller3.ensures at-smaller4.smaller4.ensures at-smaller5.smaller5.ensures refl (omega arith);
     }
 
 returns-2 : tie.Need-returns-2
 returns-2 c =
-    let w = c .before .before .before .before .before .before .before .before .before .before .before .before .before in
-    (w .path-items .ensures, held (w .before .before .before .before .before .before .before .before .before .before .before .before .before .before .before .before))
+    let w = c.before.before.before.before.before.before.before.before.before.before.before.before.before in
+    (w.path-items.ensures, held w.before.before.before.before.before.before.before.before.before.before.before.before.before.before.before.before)
 
 pub signal-path-spec : {M : Type 1} → statement M
 signal-path-spec =
     tie.close
     (tie.spec
-    (λ c. search needs)
-    (λ c. search needs)
-    (λ c. search needs)
-    (λ c. search needs)
+    (λ c. search rules)
+    (λ c. search rules)
+    (λ c. search rules)
+    (λ c. search rules)
     returns
-    (λ c κs. search needs)
-    (λ c κs. search needs)
-    (λ c κs. search needs)
-    (λ c κs. search needs)
-    (λ c κs. search needs)
+    (λ c κs. search rules)
+    (λ c κs. search rules)
+    (λ c κs. search rules)
+    (λ c κs. search rules)
+    (λ c κs. search rules)
     array-borrow-prefix-sample-items
     slice-aggregate-path-items
     array-borrow-prefix-weight-items
@@ -117,8 +117,8 @@ signal-path-spec =
     array-borrow-prefix-path-weight-items
     slice-aggregate-path-items-5
     path-items-requires
-    (λ c. search needs)
-    (λ c. search needs)
-    (λ c. search needs)
-    (λ c. search needs)
+    (λ c. search rules)
+    (λ c. search rules)
+    (λ c. search rules)
+    (λ c. search rules)
     returns-2)

@@ -1,172 +1,172 @@
 -- `byte_signals::split` meets its contract: refused under 11, or the call by lists of as many items as are looked at.
-use mathlib.Core.Path.{_≡_, refl, sym}
-use Prim.Native.Nat.{ℕ, _+_}
+use mathlib.Core.Path.{◌≡◌, refl, sym}
+use Prim.Native.Nat.{ℕ, ◌+◌}
 use native.Mathlib.Omega.{arith}
 use lib.IntN.{ℤ, pos}
-use Rattle·least.specs.Segmentation.{maxSegments}
-use Rattle·coding.proofs.Strings.{bytes-held, front-length, front-fits}
-use Rattle·coding.proofs.Models.{models-held, fronts-fit}
-use Rattle·coding.proofs.Calls.{eleven}
-use Rattle·path.specs.Model.{Lists, lists}
-use Rattle·byte_signals·specs.specs.Signals.{SignalStrings, signalStrings, signalCoding, SplitStrings, splitStrings, splitCoding, splitAnswers, splitCall}
-use Rattle·byte_signals·specs.specs.Inner.{readSamples, readWeights}
-use borrow.Author.Needs.{needs}
-use Rattle·byte_signals·proofs.proofs.split.Statement.{statement}
-use Rattle·byte_signals·proofs.proofs.split.Tie as tie
+use Rattle.least.specs.Segmentation.{maxSegments}
+use Rattle.coding.proofs.Strings.{bytes-held, front_length, front_fits}
+use Rattle.coding.proofs.Models.{models-held, fronts-fit}
+use Rattle.coding.proofs.Calls.{eleven}
+use Rattle.path.specs.Model.{Lists, lists}
+use Rattle.byte_signals.specs.Signals.{SignalStrings, signalStrings, signalCoding, SplitStrings, splitStrings, splitCoding, splitAnswers, splitCall}
+use Rattle.byte_signals.specs.Inner.{readSamples, readWeights}
+use borrow.Author.Rules.{rules}
+use Rattle.byte_signals.proofs.split.Statement.{statement}
+use Rattle.byte_signals.proofs.split.Tie as tie
 
 -- The seven remainders that the code adds up, as those of what is read and those of the buffers.
-none-over : (a b c d e f g : ℕ) → a + b + c + d + e + f + g ≡ 0 → a + b + (c + (d + (e + (f + g) + 0))) ≡ 0
-none-over a b c d e f g h = omega arith
+none_over : (a b c d e f g : ℕ) → a + b + c + d + e + f + g ≡ 0 → a + b + (c + (d + (e + (f + g) + 0))) ≡ 0
+none_over a b c d e f g h = omega arith
 
 abbrev input : tie.Start → SignalStrings
-input s = signalStrings (s .args .samples .now) (s .args .weights .now)
+input s = signalStrings s.args.samples.now s.args.weights.now
 
 abbrev strings : tie.Start → Lists
-strings s = lists (s .args .path-sizes .now) (s .args .path-losses .now) (s .args .path-weights .now)
+strings s = lists s.args.path-sizes.now s.args.path-losses.now s.args.path-weights.now
 
 abbrev lent : tie.Start → SplitStrings
-lent s = splitStrings (s .args .starts .now) (s .args .levels .now) (strings s) (s .args .scratch .now)
+lent s = splitStrings s.args.starts.now s.args.levels.now (strings s) s.args.scratch.now
 
 -- What was lent holds bytes.
-held : (c : tie.After-slice-known6) → signalCoding .Held (input (c .before .before .before .before .before .before .before .before)) × splitCoding .Held (lent (c .before .before .before .before .before .before .before .before))
+held : (c : tie.After-slice-known6) → signalCoding.Held (input c.before.before.before.before.before.before.before.before) × splitCoding.Held (lent c.before.before.before.before.before.before.before.before)
 held c =
-    let m = c .before .before .before .before in
-    let k = m .before .before in
-    let s = k .before .before in (
-      (bytes-held (input s .samples) (k .before .shared-slice-known .given), bytes-held (input s .weights) (k .shared-slice-known2 .given)),
+    let m = c.before.before.before.before in
+    let k = m.before.before in
+    let s = k.before.before in (
+      (bytes-held (input s).samples k.before.shared-slice-known.given, bytes-held (input s).weights k.shared-slice-known2.given),
       (
-        bytes-held (lent s .starts) (m .before .slice-known .given),
+        bytes-held (lent s).starts m.before.slice-known.given,
         (
-          bytes-held (lent s .levels) (m .slice-known2 .given),
-          (models-held (strings s) (c .before .before .before .slice-known3 .given) (c .before .before .slice-known4 .given) (c .before .slice-known5 .given), tt),
+          bytes-held (lent s).levels m.slice-known2.given,
+          (models-held (strings s) c.before.before.before.slice-known3.given c.before.before.slice-known4.given c.before.slice-known5.given, tt),
         ),
       ),
     )
 
 returns : tie.Need-returns
 returns c =
-    let s = c .before .before .before .before .before .before .before .before .before in
-    let a = s .args in
-    let call = splitCall (a .max-segments) (a .min-segment-len) (a .p) (a .q) in
-    (eleven signalCoding splitCoding splitAnswers call (input s) (lent s) (λ e. c .if1 .taken (omega arith)), held (c .before))
+    let s = c.before.before.before.before.before.before.before.before.before in
+    let a = s.args in
+    let call = splitCall a.max-segments a.min-segment-len a.p a.q in
+    (eleven signalCoding splitCoding splitAnswers call (input s) (lent s) (λ e. c.if1.true (omega arith)), held c.before)
 
 array-borrow-prefix-sample-items : tie.Need-array-borrow-prefix-sample-items
-array-borrow-prefix-sample-items c = omega (arith, c .before .before .before .before .before .before .before .before .before .before .before .before .smaller .ensures)
+array-borrow-prefix-sample-items c = omega (arith, c.before.before.before.before.before.before.before.before.before.before.before.before.smaller.ensures)
 
 slice-aggregate-split-items : tie.Need-slice-aggregate-split-items
-slice-aggregate-split-items c = sym (front-length {A = ℤ} (pos 0) readSamples _ (omega (arith, c .before .before .before .before .before .before .before .before .before .before .before .before .before .smaller .ensures)))
+slice-aggregate-split-items c = sym (front_length {A = ℤ} (pos 0) readSamples _ (omega (arith, c.before.before.before.before.before.before.before.before.before.before.before.before.before.smaller.ensures)))
 
 array-borrow-prefix-weight-items : tie.Need-array-borrow-prefix-weight-items
-array-borrow-prefix-weight-items c = omega (arith, c .before .before .before .before .before .before .before .before .before .before .before .before .smaller2 .ensures)
+array-borrow-prefix-weight-items c = omega (arith, c.before.before.before.before.before.before.before.before.before.before.before.before.smaller2.ensures)
 
 slice-aggregate-split-items-2 : tie.Need-slice-aggregate-split-items-2
-slice-aggregate-split-items-2 c = sym (front-length {A = ℕ} 0 readWeights _ (omega (arith, c .before .before .before .before .before .before .before .before .before .before .before .before .before .smaller2 .ensures)))
+slice-aggregate-split-items-2 c = sym (front_length {A = ℕ} 0 readWeights _ (omega (arith, c.before.before.before.before.before.before.before.before.before.before.before.before.before.smaller2.ensures)))
 
 array-borrow-prefix-start-items : tie.Need-array-borrow-prefix-start-items
-array-borrow-prefix-start-items c = omega (arith, c .before .before .before .before .before .before .before .before .before .before .before .before .smaller3 .ensures)
+array-borrow-prefix-start-items c = omega (arith, c.before.before.before.before.before.before.before.before.before.before.before.before.smaller3.ensures)
 
 slice-aggregate-split-items-3 : tie.Need-slice-aggregate-split-items-3
-slice-aggregate-split-items-3 c = sym (front-length {A = ℕ} 0 maxSegments _ (omega (arith, c .before .before .before .before .before .before .before .before .before .before .before .before .before .smaller3 .ensures)))
+slice-aggregate-split-items-3 c = sym (front_length {A = ℕ} 0 maxSegments _ (omega (arith, c.before.before.before.before.before.before.before.before.before.before.before.before.before.smaller3.ensures)))
 
 array-borrow-prefix-level-items : tie.Need-array-borrow-prefix-level-items
-array-borrow-prefix-level-items c = omega (arith, c .before .before .before .before .before .before .before .before .before .before .before .before .smaller4 .ensures)
+array-borrow-prefix-level-items c = omega (arith, c.before.before.before.before.before.before.before.before.before.before.before.before.smaller4.ensures)
 
 slice-aggregate-split-items-4 : tie.Need-slice-aggregate-split-items-4
-slice-aggregate-split-items-4 c = sym (front-length {A = ℤ} (pos 0) maxSegments _ (omega (arith, c .before .before .before .before .before .before .before .before .before .before .before .before .before .smaller4 .ensures)))
+slice-aggregate-split-items-4 c = sym (front_length {A = ℤ} (pos 0) maxSegments _ (omega (arith, c.before.before.before.before.before.before.before.before.before.before.before.before.before.smaller4.ensures)))
 
 array-borrow-prefix-size-items : tie.Need-array-borrow-prefix-size-items
-array-borrow-prefix-size-items c = omega (arith, c .before .before .before .before .before .before .before .before .before .before .before .before .smaller5 .ensures)
+array-borrow-prefix-size-items c = omega (arith, c.before.before.before.before.before.before.before.before.before.before.before.before.smaller5.ensures)
 
 slice-aggregate-split-items-5 : tie.Need-slice-aggregate-split-items-5
-slice-aggregate-split-items-5 c = sym (front-length {A = ℕ} 0 maxSegments _ (omega (arith, c .before .before .before .before .before .before .before .before .before .before .before .before .before .smaller5 .ensures)))
+slice-aggregate-split-items-5 c = sym (front_length {A = ℕ} 0 maxSegments _ (omega (arith, c.before.before.before.before.before.before.before.before.before.before.before.before.before.smaller5.ensures)))
 
 array-borrow-prefix-loss-items : tie.Need-array-borrow-prefix-loss-items
-array-borrow-prefix-loss-items c = omega (arith, c .before .before .before .before .before .before .before .before .before .before .before .before .smaller6 .ensures)
+array-borrow-prefix-loss-items c = omega (arith, c.before.before.before.before.before.before.before.before.before.before.before.before.smaller6.ensures)
 
 slice-aggregate-split-items-6 : tie.Need-slice-aggregate-split-items-6
-slice-aggregate-split-items-6 c = sym (front-length {A = ℕ} 0 maxSegments _ (omega (arith, c .before .before .before .before .before .before .before .before .before .before .before .before .before .smaller6 .ensures)))
+slice-aggregate-split-items-6 c = sym (front_length {A = ℕ} 0 maxSegments _ (omega (arith, c.before.before.before.before.before.before.before.before.before.before.before.before.before.smaller6.ensures)))
 
 array-borrow-prefix-path-weight-items : tie.Need-array-borrow-prefix-path-weight-items
-array-borrow-prefix-path-weight-items c = omega (arith, c .before .before .before .before .before .before .before .before .before .before .before .before .smaller7 .ensures)
+array-borrow-prefix-path-weight-items c = omega (arith, c.before.before.before.before.before.before.before.before.before.before.before.before.smaller7.ensures)
 
 slice-aggregate-split-items-7 : tie.Need-slice-aggregate-split-items-7
-slice-aggregate-split-items-7 c = sym (front-length {A = ℕ} 0 maxSegments _ (omega (arith, c .before .before .before .before .before .before .before .before .before .before .before .before .before .smaller7 .ensures)))
+slice-aggregate-split-items-7 c = sym (front_length {A = ℕ} 0 maxSegments _ (omega (arith, c.before.before.before.before.before.before.before.before.before.before.before.before.before.smaller7.ensures)))
 
 split-items-requires : tie.Need-split-items-requires
 split-items-requires c κs =
-    let at-smaller7 = c .before .before .before .before .before .before .before .before .before .before .before .before .before in
-    let at-smaller6 = at-smaller7 .before in
-    let at-smaller5 = at-smaller6 .before in
-    let at-smaller4 = at-smaller5 .before in
-    let at-smaller3 = at-smaller4 .before in
-    let at-smaller2 = at-smaller3 .before in
-    let at-smaller = at-smaller2 .before in
-    let at-else1 = at-smaller .before in
-    let start = at-else1 .before .before .before .before .before .before .before .before .before in
+    let at-smaller7 = c.before.before.before.before.before.before.before.before.before.before.before.before.before in
+    let at-smaller6 = at-smaller7.before in
+    let at-smaller5 = at-smaller6.before in
+    let at-smaller4 = at-smaller5.before in
+    let at-smaller3 = at-smaller4.before in
+    let at-smaller2 = at-smaller3.before in
+    let at-smaller = at-smaller2.before in
+    let at-else1 = at-smaller.before in
+    let start = at-else1.before.before.before.before.before.before.before.before.before in
     record {
-      whole = none-over _ _ _ _ _ _ _ (at-else1 .if1 .left);
+      whole = none_over _ _ _ _ _ _ _ at-else1.if1.false;
       input = record {
-        samples-fit = front-fits {A = ℤ} (pos 0) readSamples _ _ (at-smaller .smaller .ensures) refl (omega arith);
-        weights-fit = front-fits {A = ℕ} 0 readWeights _ _ (at-smaller2 .smaller2 .ensures) refl (omega arith);
+        samples-fit = front_fits {A = ℤ} (pos 0) readSamples _ _ at-smaller.smaller.ensures refl (omega arith);
+        weights-fit = front_fits {A = ℕ} 0 readWeights _ _ at-smaller2.smaller2.ensures refl (omega arith);
       };
-      starts-fit = front-fits {A = ℕ} 0 maxSegments _ _ (at-smaller3 .smaller3 .ensures) refl (omega arith);
-      levels-fit = front-fits {A = ℤ} (pos 0) maxSegments _ _ (at-smaller4 .smaller4 .ensures) refl (omega arith);
-      fit = fronts-fit (strings start) maxSegments maxSegments (at-smaller5 .smaller5 .ensures) (at-smaller6 .smaller6 .ensures) (at-smaller7 .smaller7 .ensures) refl (omega arith);
+      starts_fit = front_fits {A = ℕ} 0 maxSegments _ _ at-smaller3.smaller3.ensures refl (omega arith);
+      levels-fit = front_fits {A = ℤ} (pos 0) maxSegments _ _ at-smaller4.smaller4.ensures refl (omega arith);
+      fit = fronts-fit (strings start) maxSegments maxSegments at-smaller5.smaller5.ensures at-smaller6.smaller6.ensures at-smaller7.smaller7.ensures refl (omega arith);
     }
 
-same-length : tie.Need-same-length
-same-length c =
-    let at-split-items = c .before .before .before .before .before .before .before .before .before .before .before .before .before .before .before .before .before .before .before in
-    at-split-items .split-items .kept .1 .1 .1 .1 .1 .1 .0
+same_length : tie.Need-same-length
+same_length c =
+    let at-split-items = c.before.before.before.before.before.before.before.before.before.before.before.before.before.before.before.before.before.before.before in
+    at-split-items.split-items.auto.1.1.1.1.1.1.0
 
 same-length-2 : tie.Need-same-length-2
 same-length-2 c =
-    let at-split-items = c .before .before .before .before .before .before .before .before .before .before .before .before .before .before .before .before .before .before .before in
-    at-split-items .split-items .kept .1 .1 .1 .1 .1 .1 .1 .0
+    let at-split-items = c.before.before.before.before.before.before.before.before.before.before.before.before.before.before.before.before.before.before.before in
+    at-split-items.split-items.auto.1.1.1.1.1.1.1.0
 
 same-length-3 : tie.Need-same-length-3
 same-length-3 c =
-    let at-split-items = c .before .before .before .before .before .before .before .before .before .before .before .before .before .before .before .before .before .before .before in
-    at-split-items .split-items .kept .1 .1 .1 .1 .1 .1 .1 .1 .0
+    let at-split-items = c.before.before.before.before.before.before.before.before.before.before.before.before.before.before.before.before.before.before.before in
+    at-split-items.split-items.auto.1.1.1.1.1.1.1.1.0
 
 same-length-4 : tie.Need-same-length-4
 same-length-4 c =
-    let at-split-items = c .before .before .before .before .before .before .before .before .before .before .before .before .before .before .before .before .before .before .before in
-    at-split-items .split-items .kept .1 .1 .1 .1 .1 .1 .1 .1 .1 .0
+    let at-split-items = c.before.before.before.before.before.before.before.before.before.before.before.before.before.before.before.before.before.before.before in
+    at-split-items.split-items.auto.1.1.1.1.1.1.1.1.1.0
 
 same-length-5 : tie.Need-same-length-5
 same-length-5 c =
-    let at-split-items = c .before .before .before .before .before .before .before .before .before .before .before .before .before .before .before .before .before .before .before in
-    at-split-items .split-items .kept .1 .1 .1 .1 .1 .1 .1 .1 .1 .1 .0
+    let at-split-items = c.before.before.before.before.before.before.before.before.before.before.before.before.before.before.before.before.before.before.before in
+    at-split-items.split-items.auto.1.1.1.1.1.1.1.1.1.1.0
 
 same-length-6 : tie.Need-same-length-6
 same-length-6 c =
-    let at-split-items = c .before .before .before .before .before .before .before .before .before .before .before .before .before .before .before .before .before .before .before in
-    at-split-items .split-items .kept .1 .1 .1 .1 .1 .1 .1 .1 .1 .1 .1 .0
+    let at-split-items = c.before.before.before.before.before.before.before.before.before.before.before.before.before.before.before.before.before.before.before in
+    at-split-items.split-items.auto.1.1.1.1.1.1.1.1.1.1.1.0
 
 returns-2 : tie.Need-returns-2
 returns-2 c =
-    let w = c .before .before .before .before .before .before .before .before .before .before .before .before .before .before .before .before .before .before .before in
-    (w .split-items .ensures, held (w .before .before .before .before .before .before .before .before .before .before .before .before .before .before .before .before .before .before .before .before .before .before))
+    let w = c.before.before.before.before.before.before.before.before.before.before.before.before.before.before.before.before.before.before.before in
+    (w.split-items.ensures, held w.before.before.before.before.before.before.before.before.before.before.before.before.before.before.before.before.before.before.before.before.before.before)
 
 pub split-spec : {M : Type 1} → statement M
 split-spec =
     tie.close
     (tie.spec
-    (λ c. search needs)
-    (λ c. search needs)
-    (λ c. search needs)
-    (λ c. search needs)
-    (λ c. search needs)
-    (λ c. search needs)
+    (λ c. search rules)
+    (λ c. search rules)
+    (λ c. search rules)
+    (λ c. search rules)
+    (λ c. search rules)
+    (λ c. search rules)
     returns
-    (λ c κs. search needs)
-    (λ c κs. search needs)
-    (λ c κs. search needs)
-    (λ c κs. search needs)
-    (λ c κs. search needs)
-    (λ c κs. search needs)
-    (λ c κs. search needs)
+    (λ c κs. search rules)
+    (λ c κs. search rules)
+    (λ c κs. search rules)
+    (λ c κs. search rules)
+    (λ c κs. search rules)
+    (λ c κs. search rules)
+    (λ c κs. search rules)
     array-borrow-prefix-sample-items
     slice-aggregate-split-items
     array-borrow-prefix-weight-items
@@ -182,7 +182,7 @@ split-spec =
     array-borrow-prefix-path-weight-items
     slice-aggregate-split-items-7
     split-items-requires
-    same-length
+    same_length
     same-length-2
     same-length-3
     same-length-4

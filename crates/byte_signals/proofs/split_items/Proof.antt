@@ -1,161 +1,156 @@
 -- `byte_signals::split_items` meets its contract: seven lists are read, the split is made on them, and five are encoded.
-use mathlib.Core.Path.{refl, ap, _∙_}
+use mathlib.Core.Path.{refl, ap, ◌∙◌}
 use native.Mathlib.Omega.{arith}
-use Rattle·coding.proofs.Strings.{bytes-held}
-use Rattle·coding.proofs.Models.{models-held, models-fit, models-hold}
-use Rattle·coding.proofs.Calls.{returned}
-use Rattle·path.specs.Model.{lists}
-use Rattle·signal.specs.Split.{splitBuffers}
-use Rattle·byte_signals·specs.specs.Signals.{signalStrings, signalNumbers, splitStrings, splitAnswers, splitTold, splitCall}
-use Rattle·byte_signals·proofs.proofs.SignalPaths.{signalCut}
-use Rattle·byte_signals·proofs.proofs.Splits.{splitCut, split-cut}
-use borrow.Author.Needs.{needs}
-use Rattle·byte_signals·proofs.proofs.split_items.Statement.{statement}
-use Rattle·byte_signals·proofs.proofs.split_items.Tie as tie
+use Rattle.coding.proofs.Strings.{bytes-held}
+use Rattle.coding.proofs.Models.{models-held, models-fit, models-hold}
+use Rattle.coding.proofs.Calls.{returned}
+use Rattle.path.specs.Model.{lists}
+use Rattle.signal.specs.Split.{splitBuffers}
+use Rattle.byte_signals.specs.Signals.{signalStrings, signalNumbers, splitStrings, splitAnswers, splitTold, splitCall}
+use Rattle.byte_signals.proofs.SignalPaths.{signalCut}
+use Rattle.byte_signals.proofs.Splits.{splitCut, split-cut}
+use borrow.Author.Rules.{rules}
+use Rattle.byte_signals.proofs.split_items.Statement.{statement}
+use Rattle.byte_signals.proofs.split_items.Tie as tie
 
 read-i16s-requires : tie.Need-read-i16s-requires
-read-i16s-requires c κs = omega (arith, c .before .before .before .before .before .before .before .before .before .before .before .before .before .before .pre .input .samples-fit)
+read-i16s-requires c κs = omega (arith, c.before.before.before.before.before.before.before.before.before.before.before.before.before.before.requires.input.samples-fit)
 
 read-weights-requires : tie.Need-read-weights-requires
 read-weights-requires c κs =
-    let start = c .before .before .before .before .before .before .before .before .before .before .before .before .before .before .before .before .before in
-    start .pre .input .weights-fit
+    let start = c.before.before.before.before.before.before.before.before.before.before.before.before.before.before.before.before.before in
+    start.requires.input.weights-fit
 
 read-segments-requires : tie.Need-read-segments-requires
 read-segments-requires c κs =
-    let start = c .before .before .before .before .before .before .before .before .before .before .before .before .before .before .before .before .before .before .before .before .before .before .before .before in
-    record { first-has = omega (arith, start .pre .starts-fit); second-has = omega (arith, start .pre .levels-fit) }
+    let start = c.before.before.before.before.before.before.before.before.before.before.before.before.before.before.before.before.before.before.before.before.before.before.before.before in
+    record { first-has = omega (arith, start.requires.starts_fit); second-has = omega (arith, start.requires.levels-fit) }
 
 read-models-requires : tie.Need-read-models-requires
 read-models-requires c κs =
-    let start = c .before .before .before .before .before .before .before .before .before .before .before .before .before .before .before .before .before .before .before .before .before .before .before .before .before .before .before .before .before .before .before .before .before .before in
-    let a = start .args in
-    models-hold (lists (a .path-sizes .now) (a .path-losses .now) (a .path-weights .now)) (start .pre .fit) refl refl refl
+    let start = c.before.before.before.before.before.before.before.before.before.before.before.before.before.before.before.before.before.before.before.before.before.before.before.before.before.before.before.before.before.before.before.before.before.before in
+    let a = start.args in
+    models-hold (lists a.path-sizes.now a.path-losses.now a.path-weights.now) start.requires.fit refl refl refl
 
 encode-segments-requires : tie.Need-encode-segments-requires
 encode-segments-requires c κs =
-    let at-split = c .before .before .before .before .before .before .before .before .before .before .before .before .before .before .before in
-    let at-read-segments = at-split .before .before .before .before .before .before .before .before .before .before .before .before .before .before .before .before .before .before .before .before .before .before .before .before .before in
-    let start = at-read-segments .before .before .before .before .before .before .before .before .before .before .before .before .before .before .before .before .before .before .before .before .before .before .before .before .before in
-    let made = at-split .split .kept .1 .1 .1 .1 .1 .1 in
-    let segments = at-read-segments .read-segments .kept .1 .1 in
-    let pre = start .pre in
+    let at_split = c.before.before.before.before.before.before.before.before.before.before.before.before.before.before.before in
+    let at-read-segments = at_split.before.before.before.before.before.before.before.before.before.before.before.before.before.before.before.before.before.before.before.before.before.before.before.before.before in
+    let start = at-read-segments.before.before.before.before.before.before.before.before.before.before.before.before.before.before.before.before.before.before.before.before.before.before.before.before.before in
+    let made = at_split.split.auto.1.1.1.1.1.1 in
+    let segments = at-read-segments.read-segments.auto.1.1 in
+    let pre = start.requires in
     record {
-      first-has = omega (arith, pre .starts-fit, made .0, segments .0);
-      second-has = omega (arith, pre .levels-fit, made .1 .0, segments .1 .0);
+      first-has = omega (arith, pre.starts_fit, made.0, segments.0);
+      second-has = omega (arith, pre.levels-fit, made.1.0, segments.1.0);
     }
 
 encode-models-requires : tie.Need-encode-models-requires
 encode-models-requires c κs =
-    let at-split = c .before .before .before .before .before .before .before .before .before .before .before .before .before .before .before .before .before .before .before .before .before .before .before .before .before .before in
-    let at-read-models = at-split .before .before .before .before .before .before .before .before .before .before .before .before .before .before .before in
-    let start = at-read-models .before .before .before .before .before .before .before .before .before .before .before .before .before .before .before .before .before .before .before
-    .before .before .before .before .before .before .before .before .before .before .before .before .before .before .before .before in
-    let a = start .args in
-    let made = at-split .split .kept .1 .1 .1 .1 .1 .1 .1 .1 in
-    let models = at-read-models .read-models .kept .1 .1 .1 in
-    models-hold (lists (a .path-sizes .now) (a .path-losses .now) (a .path-weights .now)) (start .pre .fit)
-    (made .0 ∙ models .0) (made .1 .0 ∙ models .1 .0) (made .1 .1 .0 ∙ models .1 .1 .0)
+    let at_split = c.before.before.before.before.before.before.before.before.before.before.before.before.before.before.before.before.before.before.before.before.before.before.before.before.before.before in
+    let at-read-models = at_split.before.before.before.before.before.before.before.before.before.before.before.before.before.before.before in
+    let start = at-read-models.before.before.before.before.before.before.before.before.before.before.before.before.before.before.before.before.before.before.before.before.before.before.before.before.before.before.before.before.before.before.before.before.before.before.before in
+    let a = start.args in
+    let made = at_split.split.auto.1.1.1.1.1.1.1.1 in
+    let models = at-read-models.read-models.auto.1.1.1 in
+    models-hold (lists a.path-sizes.now a.path-losses.now a.path-weights.now) start.pre.fit
+    (made.0 ∙ models.0) (made.1.0 ∙ models.1.0) (made.1.1.0 ∙ models.1.1.0)
 
 same-length-7 : tie.Need-same-length-7
 same-length-7 c =
-    let at-read-i16s = c .before .before .before .before .before .before .before .before .before .before .before .before .before .before .before .before .before .before .before
-    .before .before .before .before .before .before .before .before .before .before .before .before .before .before .before .before .before .before .before .before .before .before
-    .before .before .before .before .before .before .before .before .before .before .before .before .before .before .before .before .before .before .before .before .before .before .before .before .before .before .before in
-    at-read-i16s .read-i16s .kept .1 .0
+    let at-read-i16s = c.before.before.before.before.before.before.before.before.before.before.before.before.before.before.before.before.before.before.before.before.before.before.before.before.before.before.before.before.before.before.before.before.before.before.before.before.before.before.before.before.before.before.before.before.before.before.before.before.before.before.before.before.before.before.before.before.before.before.before.before.before.before.before.before.before.before.before.before in
+    at-read-i16s.read-i16s.kept.1.0
 
 same-length-8 : tie.Need-same-length-8
 same-length-8 c =
-    let at-read-weights = c .before .before .before .before .before .before .before .before .before .before .before .before .before .before .before .before .before .before .before
-    .before .before .before .before .before .before .before .before .before .before .before .before .before .before .before .before .before .before .before .before .before .before
-    .before .before .before .before .before .before .before .before .before .before .before .before .before .before .before .before .before .before .before .before .before .before .before .before in
-    at-read-weights .read-weights .kept .1 .0
+    let at-read-weights = c.before.before.before.before.before.before.before.before.before.before.before.before.before.before.before.before.before.before.before.before.before.before.before.before.before.before.before.before.before.before.before.before.before.before.before.before.before.before.before.before.before.before.before.before.before.before.before.before.before.before.before.before.before.before.before.before.before.before.before.before.before.before.before.before.before in
+    at-read-weights.read-weights.kept.1.0
 
 same-length-9 : tie.Need-same-length-9
 same-length-9 c =
-    let at-split = c .before .before .before .before .before .before .before .before .before .before .before .before .before .before .before .before .before .before .before .before .before .before .before .before .before .before .before .before .before .before .before .before .before in
-    let at-read-segments = at-split .before .before .before .before .before .before .before .before .before .before .before .before .before .before .before .before .before .before .before .before .before .before .before .before .before in
-    at-split .split .kept .1 .1 .1 .1 .1 .1 .0 ∙ at-read-segments .read-segments .kept .1 .1 .0
+    let at_split = c.before.before.before.before.before.before.before.before.before.before.before.before.before.before.before.before.before.before.before.before.before.before.before.before.before.before.before.before.before.before.before.before.before in
+    let at-read-segments = at_split.before.before.before.before.before.before.before.before.before.before.before.before.before.before.before.before.before.before.before.before.before.before.before.before.before in
+    at_split.split.auto.1.1.1.1.1.1.0 ∙ at-read-segments.read-segments.auto.1.1.0
 
 same-length-10 : tie.Need-same-length-10
 same-length-10 c =
-    let at-split = c .before .before .before .before .before .before .before .before .before .before .before .before .before .before .before .before .before .before .before .before .before .before .before .before .before .before .before .before .before .before .before .before .before in
-    let at-read-segments = at-split .before .before .before .before .before .before .before .before .before .before .before .before .before .before .before .before .before .before .before .before .before .before .before .before .before in
-    at-split .split .kept .1 .1 .1 .1 .1 .1 .1 .0 ∙ at-read-segments .read-segments .kept .1 .1 .1 .0
+    let at_split = c.before.before.before.before.before.before.before.before.before.before.before.before.before.before.before.before.before.before.before.before.before.before.before.before.before.before.before.before.before.before.before.before.before in
+    let at-read-segments = at_split.before.before.before.before.before.before.before.before.before.before.before.before.before.before.before.before.before.before.before.before.before.before.before.before.before in
+    at_split.split.auto.1.1.1.1.1.1.1.0 ∙ at-read-segments.read-segments.auto.1.1.1.0
 
 same-length-11 : tie.Need-same-length-11
 same-length-11 c =
-    let at-split = c .before .before .before .before .before .before .before .before .before .before .before .before .before .before .before .before .before .before .before .before .before .before .before .before .before .before .before .before .before .before .before .before .before in
-    let at-read-models = at-split .before .before .before .before .before .before .before .before .before .before .before .before .before .before .before in
-    at-split .split .kept .1 .1 .1 .1 .1 .1 .1 .1 .0 ∙ at-read-models .read-models .kept .1 .1 .1 .0
+    let at_split = c.before.before.before.before.before.before.before.before.before.before.before.before.before.before.before.before.before.before.before.before.before.before.before.before.before.before.before.before.before.before.before.before.before in
+    let at-read-models = at_split.before.before.before.before.before.before.before.before.before.before.before.before.before.before.before in
+    at_split.split.auto.1.1.1.1.1.1.1.1.0 ∙ at-read-models.read-models.auto.1.1.1.0
 
 same-length-12 : tie.Need-same-length-12
 same-length-12 c =
-    let at-split = c .before .before .before .before .before .before .before .before .before .before .before .before .before .before .before .before .before .before .before .before .before .before .before .before .before .before .before .before .before .before .before .before .before in
-    let at-read-models = at-split .before .before .before .before .before .before .before .before .before .before .before .before .before .before .before in
-    at-split .split .kept .1 .1 .1 .1 .1 .1 .1 .1 .1 .0 ∙ at-read-models .read-models .kept .1 .1 .1 .1 .0
+    let at_split = c.before.before.before.before.before.before.before.before.before.before.before.before.before.before.before.before.before.before.before.before.before.before.before.before.before.before.before.before.before.before.before.before.before in
+    let at-read-models = at_split.before.before.before.before.before.before.before.before.before.before.before.before.before.before.before in
+    at_split.split.auto.1.1.1.1.1.1.1.1.1.0 ∙ at-read-models.read-models.auto.1.1.1.1.0
 
 same-length-13 : tie.Need-same-length-13
 same-length-13 c =
-    let at-split = c .before .before .before .before .before .before .before .before .before .before .before .before .before .before .before .before .before .before .before .before .before .before .before .before .before .before .before .before .before .before .before .before .before in
-    let at-read-models = at-split .before .before .before .before .before .before .before .before .before .before .before .before .before .before .before in
-    at-split .split .kept .1 .1 .1 .1 .1 .1 .1 .1 .1 .1 .0 ∙ at-read-models .read-models .kept .1 .1 .1 .1 .1 .0
+    let at_split = c.before.before.before.before.before.before.before.before.before.before.before.before.before.before.before.before.before.before.before.before.before.before.before.before.before.before.before.before.before.before.before.before.before in
+    let at-read-models = at_split.before.before.before.before.before.before.before.before.before.before.before.before.before.before.before in
+    at_split.split.auto.1.1.1.1.1.1.1.1.1.1.0 ∙ at-read-models.read-models.auto.1.1.1.1.1.0
 
 returns : tie.Need-returns
 returns c =
-    let at-encode-models = c .before .before .before .before .before .before in
-    let at-encode-segments = at-encode-models .before .before .before .before .before .before .before .before .before .before .before in
-    let at-split = at-encode-segments .before .before .before .before .before .before .before .before .before .before .before .before .before .before .before .before in
-    let at-read-models = at-split .before .before .before .before .before .before .before .before .before .before .before .before .before .before .before in
-    let at-read-segments = at-read-models .before .before .before .before .before .before .before .before .before .before in
-    let at-read-weights = at-read-segments .before .before .before .before .before .before .before in
-    let at-read-i16s = at-read-weights .before .before .before in
-    let at-slice-known5 = at-read-i16s .before .before .before .before .before .before .before .before in
-    let at-slice-known4 = at-slice-known5 .before in
-    let at-slice-known3 = at-slice-known4 .before in
-    let at-slice-known2 = at-slice-known3 .before in
-    let at-slice-known = at-slice-known2 .before in
-    let start = at-slice-known .before .before .before in
-    let w = at-encode-models .encode-models .ensures in
-    let v = at-encode-segments .encode-segments .ensures in
-    let made = at-split .split in
-    let models = at-read-models .read-models in
-    let segments = at-read-segments .read-segments in
-    let a = start .args in
-    let pre = start .pre in
-    let after = made .last .1 .1 .1 .1 .1 .1 in
-    let stays = made .kept .1 .1 .1 .1 .1 .1 in
-    let long = models .kept .1 .1 .1 in
-    let items = lists (a .size-items .now) (a .loss-items .now) (a .path-weight-items .now) in
-    let left = lists (after .1 .1 .0) (after .1 .1 .1 .0) (after .1 .1 .1 .1 .0) in
-    let strings = lists (a .path-sizes .now) (a .path-losses .now) (a .path-weights .now) in
-    let read = signalNumbers (a .sample-items .now) (a .weight-items .now) in
-    let call = splitCall (a .max-segments) (a .min-segment-len) (a .p) (a .q) in
-    let input = signalStrings (a .samples .now) (a .weights .now) in
-    let lent = splitStrings (a .starts .now) (a .levels .now) strings (a .scratch .now) in
-    returned signalCut splitCut splitAnswers call input lent (pre .whole) (
-      bytes-held (a .starts .now) (at-slice-known .slice-known .given),
+    let at-encode-models = c.before.before.before.before.before.before in
+    let at-encode-segments = at-encode-models.before.before.before.before.before.before.before.before.before.before.before in
+    let at_split = at-encode-segments.before.before.before.before.before.before.before.before.before.before.before.before.before.before.before.before in
+    let at-read-models = at_split.before.before.before.before.before.before.before.before.before.before.before.before.before.before.before in
+    let at-read-segments = at-read-models.before.before.before.before.before.before.before.before.before.before in
+    let at-read-weights = at-read-segments.before.before.before.before.before.before.before in
+    let at-read-i16s = at-read-weights.before.before.before in
+    let at-slice-known5 = at-read-i16s.before.before.before.before.before.before.before.before in
+    let at-slice-known4 = at-slice-known5.before in
+    let at-slice-known3 = at-slice-known4.before in
+    let at-slice-known2 = at-slice-known3.before in
+    let at-slice-known = at-slice-known2.before in
+    let start = at-slice-known.before.before.before in
+    let w = at-encode-models.encode-models.ensures in
+    let v = at-encode-segments.encode-segments.ensures in
+    let made = at_split.split in
+    let models = at-read-models.read-models in
+    let segments = at-read-segments.read-segments in
+    let a = start.args in
+    let pre = start.requires in
+    let after = made.new.1.1.1.1.1.1 in
+    let stays = made.auto.1.1.1.1.1.1 in
+    let long = models.auto.1.1.1 in
+    let items = lists a.size-items.now a.loss-items.now a.path-weight-items.now in
+    let left = lists after.1.1.0 after.1.1.1.0 after.1.1.1.1.0 in
+    let strings = lists a.path-sizes.now a.path-losses.now a.path-weights.now in
+    let read = signalNumbers a.sample-items.now a.weight-items.now in
+    let call = splitCall a.max-segments a.min-segment-len a.p a.q in
+    let input = signalStrings a.samples.now a.weights.now in
+    let lent = splitStrings a.starts.now a.levels.now strings a.scratch.now in
+    returned signalCut splitCut splitAnswers call input lent pre.whole (
+      bytes-held a.starts.now at-slice-known.slice-known.given,
       (
-        bytes-held (a .levels .now) (at-slice-known2 .slice-known2 .given),
-        (models-held strings (at-slice-known3 .slice-known3 .given) (at-slice-known4 .slice-known4 .given) (at-slice-known5 .slice-known5 .given), tt),
+        bytes-held a.levels.now at-slice-known2.slice-known2.given,
+        (models-held strings at-slice-known3.slice-known3.given at-slice-known4.slice-known4.given at-slice-known5.slice-known5.given, tt),
       ),
     )
-    (split-cut (a .max-segments) (a .min-segment-len) (a .p) (a .q) _ _) read
-    (splitBuffers (a .start-items .now) (a .level-items .now) items (a .scratch .now))
-    (splitBuffers (after .0) (after .1 .0) left (after .1 .1 .1 .1 .1 .0)) (made .result)
-    (ap splitTold (made .ensures .0)
-    ∙ (λ i. call (signalNumbers (at-read-i16s .read-i16s .ensures i) (at-read-weights .read-weights .ensures i))
-    (splitBuffers (segments .ensures .starts-are i) (segments .ensures .levels-are i)
-    (lists (models .ensures .sizes-are i) (models .ensures .losses-are i) (models .ensures .weights-are i)) (a .scratch .now))))
-    (pre .input .samples-fit, tt) (pre .starts-fit, (pre .levels-fit, (models-fit strings (pre .fit) items refl refl refl, tt))) (
-      stays .0 ∙ segments .kept .1 .1 .0 ∙ pre .starts-fit,
+    (split-cut a.max-segments a.min-segment-len a.p a.q _ _) read
+    (splitBuffers a.start-items.now a.level-items.now items a.scratch.now)
+    (splitBuffers after.0 after.1.0 left after.1.1.1.1.1.0) made.result
+    (ap splitTold made.ensures.0
+    ∙ (λ i. call (signalNumbers (at-read-i16s.read-i16s.ensures i) (at-read-weights.read-weights.ensures i))
+    (splitBuffers (segments.ensures.starts-are i) (segments.ensures.levels-are i)
+    (lists (models.ensures.sizes-are i) (models.ensures.losses-are i) (models.ensures.weights-are i)) a.scratch.now)))
+    (pre.input.samples-fit, tt) (pre.starts_fit, (pre.levels-fit, (models-fit strings pre.fit items refl refl refl, tt))) (
+      stays.0 ∙ segments.auto.1.1.0 ∙ pre.starts_fit,
       (
-        stays .1 .0 ∙ segments .kept .1 .1 .1 .0 ∙ pre .levels-fit,
-        (models-fit strings (pre .fit) left (stays .1 .1 .0 ∙ long .0) (stays .1 .1 .1 .0 ∙ long .1 .0) (stays .1 .1 .1 .1 .0 ∙ long .1 .1 .0), tt),
+        stays.1.0 ∙ segments.auto.1.1.1.0 ∙ pre.levels-fit,
+        (models-fit strings pre.fit left (stays.1.1.0 ∙ long.0) (stays.1.1.1.0 ∙ long.1.0) (stays.1.1.1.1.0 ∙ long.1.1.0), tt),
       ),
     )
     _
-    (λ i. splitStrings (v .starts-are i) (v .levels-are i) (lists (w .sizes-are i) (w .losses-are i) (w .weights-are i)) (after .1 .1 .1 .1 .1 .0))
+    (λ i. splitStrings (v.starts-are i) (v.levels-are i) (lists (w.sizes-are i) (w.losses-are i) (w.weights-are i)) after.1.1.1.1.1.0)
 
 pub split-items-spec : {M : Type 1} → statement M
 split-items-spec =
@@ -165,15 +160,15 @@ split-items-spec =
     read-weights-requires
     read-segments-requires
     read-models-requires
-    (λ c κs. search needs)
+    (λ c κs. search rules)
     encode-segments-requires
     encode-models-requires
-    (λ c. search needs)
-    (λ c. search needs)
-    (λ c. search needs)
-    (λ c. search needs)
-    (λ c. search needs)
-    (λ c. search needs)
+    (λ c. search rules)
+    (λ c. search rules)
+    (λ c. search rules)
+    (λ c. search rules)
+    (λ c. search rules)
+    (λ c. search rules)
     same-length-7
     same-length-8
     same-length-9

@@ -1,96 +1,96 @@
 -- `byte_streams::extend` meets its contract: refused under 11, or the extension by lists of as many items as are looked at.
-use mathlib.Core.Path.{refl, ap, sym, _∙_}
+use mathlib.Core.Path.{refl, ap, sym, ◌∙◌}
 use Prim.Native.Nat.{ℕ}
 use native.Mathlib.Omega.{arith}
 use lib.IntN.{ℤ, pos}
 use mir.Syntax.{w16}
-use mir.Facts.{toZ-ofZ}
-use Rattle·coding.specs.Coding.{signeds}
-use Rattle·coding.proofs.Strings.{bytes-held, front-length, front-fits}
-use Rattle·coding.proofs.Models.{models-held, fronts-fit}
-use Rattle·coding.proofs.Calls.{eleven}
-use Rattle·path.specs.Model.{Lists, lists}
-use Rattle·segment.specs.Segment.{Sample16}
-use Rattle·segment.proofs.Bounds.{fits-sample}
-use Rattle·stream.specs.Table.{maxRows}
-use Rattle·stream.specs.Extend.{StreamBuffers, streamBuffers}
-use Rattle·byte_signals.specs.Inner.{readSamples}
-use Rattle·byte_streams·specs.specs.Streams.{streamCoding, extendAnswers, extendCall, extendBytesOf}
-use borrow.Author.Needs.{needs}
-use Rattle·byte_streams·proofs.proofs.extend.Statement.{statement}
-use Rattle·byte_streams·proofs.proofs.extend.Tie as tie
+use mir.Facts.{to_z-of_z}
+use Rattle.coding.specs.Coding.{signeds}
+use Rattle.coding.proofs.Strings.{bytes-held, front_length, front_fits}
+use Rattle.coding.proofs.Models.{models-held, fronts-fit}
+use Rattle.coding.proofs.Calls.{eleven}
+use Rattle.path.specs.Model.{Lists, lists}
+use Rattle.segment.specs.Segment.{Sample16}
+use Rattle.segment.proofs.Bounds.{fits-sample}
+use Rattle.stream.specs.Table.{maxRows}
+use Rattle.stream.specs.Extend.{StreamBuffers, streamBuffers}
+use Rattle.byte_signals.specs.Inner.{readSamples}
+use Rattle.byte_streams.specs.Streams.{streamCoding, extendAnswers, extendCall, extendBytesOf}
+use borrow.Author.Rules.{rules}
+use Rattle.byte_streams.proofs.extend.Statement.{statement}
+use Rattle.byte_streams.proofs.extend.Tie as tie
 
 abbrev strings : tie.Start → Lists
-strings s = lists (s .args .path-sizes .now) (s .args .path-losses .now) (s .args .path-weights .now)
+strings s = lists s.args.path-sizes.now s.args.path-losses.now s.args.path-weights.now
 
 abbrev lent : tie.Start → StreamBuffers
-lent s = streamBuffers (s .args .table .now) (strings s)
+lent s = streamBuffers s.args.table.now (strings s)
 
 -- What was lent holds bytes, and the sample is of 16 bits.
 abbrev Held : tie.Start → Type 0
-Held s = signeds .Held (s .args .samples .now) × Sample16 (s .args .sample) × streamCoding .Held (lent s)
+Held s = signeds.Held s.args.samples.now × Sample16 s.args.sample × streamCoding.Held (lent s)
 
-held : (c : tie.After-slice-known4) → Held (c .before .before .before .before .before)
+held : (c : tie.After-slice-known4) → Held c.before.before.before.before.before
 held c =
-    let k = c .before .before .before .before in
-    let s = k .before in (
-      bytes-held (s .args .samples .now) (k .shared-slice-known .given),
-      fits-sample (s .args .sample) (s .fits .sample .sfits),
-      (tt, models-held (strings s) (c .before .before .slice-known2 .given) (c .before .slice-known3 .given) (c .slice-known4 .given)),
+    let k = c.before.before.before.before in
+    let s = k.before in (
+      bytes-held s.args.samples.now k.shared-slice-known.given,
+      fits-sample s.args.sample s.ranges.sample.sfits,
+      (tt, models-held (strings s) c.before.before.slice-known2.given c.before.slice-known3.given c.slice-known4.given),
     )
 
 returns : tie.Need-returns
 returns c =
-    let s = c .before .before .before .before .before .before in
-    let call = extendCall (s .args .sample) (s .args .max-segments) in
-    (eleven signeds streamCoding extendAnswers call (s .args .samples .now) (lent s) (λ e. c .if1 .taken (omega arith)), held (c .before))
+    let s = c.before.before.before.before.before.before in
+    let call = extendCall s.args.sample s.args.max-segments in
+    (eleven signeds streamCoding extendAnswers call s.args.samples.now (lent s) (λ e. c.if1.true (omega arith)), held c.before)
 
 array-borrow-prefix-sample-items : tie.Need-array-borrow-prefix-sample-items
-array-borrow-prefix-sample-items c = omega (arith, c .before .before .before .before .before .before .before .smaller .ensures)
+array-borrow-prefix-sample-items c = omega (arith, c.before.before.before.before.before.before.before.smaller.ensures)
 
 slice-aggregate-extend-items : tie.Need-slice-aggregate-extend-items
-slice-aggregate-extend-items c = sym (front-length {A = ℤ} (pos 0) readSamples _ (omega (arith, c .before .before .before .before .before .before .before .before .smaller .ensures)))
+slice-aggregate-extend-items c = sym (front_length {A = ℤ} (pos 0) readSamples _ (omega (arith, c.before.before.before.before.before.before.before.before.smaller.ensures)))
 
 array-borrow-prefix-size-items : tie.Need-array-borrow-prefix-size-items
-array-borrow-prefix-size-items c = omega (arith, c .before .before .before .before .before .before .before .smaller2 .ensures)
+array-borrow-prefix-size-items c = omega (arith, c.before.before.before.before.before.before.before.smaller2.ensures)
 
 slice-aggregate-extend-items-2 : tie.Need-slice-aggregate-extend-items-2
-slice-aggregate-extend-items-2 c = sym (front-length {A = ℕ} 0 maxRows _ (omega (arith, c .before .before .before .before .before .before .before .before .smaller2 .ensures)))
+slice-aggregate-extend-items-2 c = sym (front_length {A = ℕ} 0 maxRows _ (omega (arith, c.before.before.before.before.before.before.before.before.smaller2.ensures)))
 
 array-borrow-prefix-loss-items : tie.Need-array-borrow-prefix-loss-items
-array-borrow-prefix-loss-items c = omega (arith, c .before .before .before .before .before .before .before .smaller3 .ensures)
+array-borrow-prefix-loss-items c = omega (arith, c.before.before.before.before.before.before.before.smaller3.ensures)
 
 slice-aggregate-extend-items-3 : tie.Need-slice-aggregate-extend-items-3
-slice-aggregate-extend-items-3 c = sym (front-length {A = ℕ} 0 maxRows _ (omega (arith, c .before .before .before .before .before .before .before .before .smaller3 .ensures)))
+slice-aggregate-extend-items-3 c = sym (front_length {A = ℕ} 0 maxRows _ (omega (arith, c.before.before.before.before.before.before.before.before.smaller3.ensures)))
 
 array-borrow-prefix-path-weight-items : tie.Need-array-borrow-prefix-path-weight-items
-array-borrow-prefix-path-weight-items c = omega (arith, c .before .before .before .before .before .before .before .smaller4 .ensures)
+array-borrow-prefix-path-weight-items c = omega (arith, c.before.before.before.before.before.before.before.smaller4.ensures)
 
 slice-aggregate-extend-items-4 : tie.Need-slice-aggregate-extend-items-4
-slice-aggregate-extend-items-4 c = sym (front-length {A = ℕ} 0 maxRows _ (omega (arith, c .before .before .before .before .before .before .before .before .smaller4 .ensures)))
+slice-aggregate-extend-items-4 c = sym (front_length {A = ℕ} 0 maxRows _ (omega (arith, c.before.before.before.before.before.before.before.before.smaller4.ensures)))
 
 extend-items-requires : tie.Need-extend-items-requires
 extend-items-requires c κs =
-    let at-smaller4 = c .before .before .before .before .before .before .before .before in
-    let at-smaller3 = at-smaller4 .before in
-    let at-smaller2 = at-smaller3 .before in
-    let at-smaller = at-smaller2 .before in
-    let at-else1 = at-smaller .before in
-    let start = at-else1 .before .before .before .before .before .before in
+    let at-smaller4 = c.before.before.before.before.before.before.before.before in
+    let at-smaller3 = at-smaller4.before in
+    let at-smaller2 = at-smaller3.before in
+    let at-smaller = at-smaller2.before in
+    let at-else1 = at-smaller.before in
+    let start = at-else1.before.before.before.before.before.before in
     record {
-      whole = omega (arith, at-else1 .if1 .left);
-      samples-fit = front-fits {A = ℤ} (pos 0) readSamples _ _ (at-smaller .smaller .ensures) refl (omega arith);
-      fit = fronts-fit (strings start) maxRows maxRows (at-smaller2 .smaller2 .ensures) (at-smaller3 .smaller3 .ensures) (at-smaller4 .smaller4 .ensures) refl (omega arith);
+      whole = omega (arith, at-else1.if1.false);
+      samples-fit = front_fits {A = ℤ} (pos 0) readSamples _ _ at-smaller.smaller.ensures refl (omega arith);
+      fit = fronts-fit (strings start) maxRows maxRows at-smaller2.smaller2.ensures at-smaller3.smaller3.ensures at-smaller4.smaller4.ensures refl (omega arith);
     }
 
 returns-2 : tie.Need-returns-2
 returns-2 c =
-    let at-extend-items = c .before .before .before .before .before .before .before .before .before .before .before .before in
-    let known = at-extend-items .before .before .before .before .before .before .before .before .before .before .before .before .before .before in
-    let start = known .before .before .before .before .before in
-    let a = start .args in (
-      at-extend-items .extend-items .ensures
-          ∙ ap (λ (x : ℤ). extendBytesOf (a .samples .now) x (a .max-segments) (lent start)) (toZ-ofZ {w = w16} (start .fits .sample)),
+    let at-extend-items = c.before.before.before.before.before.before.before.before.before.before.before.before in
+    let known = at-extend-items.before.before.before.before.before.before.before.before.before.before.before.before.before.before in
+    let start = known.before.before.before.before.before in
+    let a = start.args in (
+      at-extend-items.extend-items.ensures
+          ∙ ap (λ (x : ℤ). extendBytesOf a.samples.now x a.max-segments (lent start)) (to_z-of_z {w = w16} start.ranges.sample),
       held known,
     )
 
@@ -98,14 +98,14 @@ pub extend-spec : {M : Type 1} → statement M
 extend-spec =
     tie.close
     (tie.spec
-    (λ c. search needs)
-    (λ c. search needs)
-    (λ c. search needs)
+    (λ c. search rules)
+    (λ c. search rules)
+    (λ c. search rules)
     returns
-    (λ c κs. search needs)
-    (λ c κs. search needs)
-    (λ c κs. search needs)
-    (λ c κs. search needs)
+    (λ c κs. search rules)
+    (λ c κs. search rules)
+    (λ c κs. search rules)
+    (λ c κs. search rules)
     array-borrow-prefix-sample-items
     slice-aggregate-extend-items
     array-borrow-prefix-size-items
@@ -115,8 +115,8 @@ extend-spec =
     array-borrow-prefix-path-weight-items
     slice-aggregate-extend-items-4
     extend-items-requires
-    (λ c. search needs)
-    (λ c. search needs)
-    (λ c. search needs)
-    (λ c. search needs)
+    (λ c. search rules)
+    (λ c. search rules)
+    (λ c. search rules)
+    (λ c. search rules)
     returns-2)

@@ -3,78 +3,78 @@ use mathlib.Core.Path.{refl, sym}
 use Prim.Native.Nat.{ℕ}
 use native.Mathlib.Omega.{arith}
 use lib.IntN.{ℤ, pos}
-use Rattle·coding.specs.Coding.{signeds}
-use Rattle·coding.proofs.Strings.{bytes-held, front-length, front-fits}
-use Rattle·coding.proofs.Calls.{eleven}
-use Rattle·stream.specs.Table.{maxRows}
-use Rattle·byte_signals.specs.Inner.{readSamples}
-use Rattle·byte_streams·specs.specs.Streams.{SegmentStrings, segmentStrings, segmentsCoding, splitFromAnswers, splitFromCall}
-use borrow.Author.Needs.{needs}
-use Rattle·byte_streams·proofs.proofs.split_from.Statement.{statement}
-use Rattle·byte_streams·proofs.proofs.split_from.Tie as tie
+use Rattle.coding.specs.Coding.{signeds}
+use Rattle.coding.proofs.Strings.{bytes-held, front_length, front_fits}
+use Rattle.coding.proofs.Calls.{eleven}
+use Rattle.stream.specs.Table.{maxRows}
+use Rattle.byte_signals.specs.Inner.{readSamples}
+use Rattle.byte_streams.specs.Streams.{SegmentStrings, segmentStrings, segmentsCoding, splitFromAnswers, splitFromCall}
+use borrow.Author.Rules.{rules}
+use Rattle.byte_streams.proofs.split_from.Statement.{statement}
+use Rattle.byte_streams.proofs.split_from.Tie as tie
 
 abbrev lent : tie.Start → SegmentStrings
-lent s = segmentStrings (s .args .starts .now) (s .args .levels .now)
+lent s = segmentStrings s.args.starts.now s.args.levels.now
 
 -- What was lent holds bytes.
-held : (c : tie.After-slice-known2) → signeds .Held (c .before .before .before .before .args .samples .now) × segmentsCoding .Held (lent (c .before .before .before .before))
+held : (c : tie.After-slice-known2) → signeds.Held c.before.before.before.before.args.samples.now × segmentsCoding.Held (lent c.before.before.before.before)
 held c =
-    let k = c .before .before .before in
-    let s = k .before in (
-      bytes-held (s .args .samples .now) (k .shared-slice-known .given),
-      (bytes-held (lent s .starts) (c .before .slice-known .given), bytes-held (lent s .levels) (c .slice-known2 .given)),
+    let k = c.before.before.before in
+    let s = k.before in (
+      bytes-held s.args.samples.now k.shared-slice-known.given,
+      (bytes-held (lent s).starts c.before.slice-known.given, bytes-held (lent s).levels c.slice-known2.given),
     )
 
 returns : tie.Need-returns
 returns c =
-    let s = c .before .before .before .before .before in
-    let a = s .args in
-    let call = splitFromCall (a .max-segments) (a .p) (a .q) (a .table .now) in
-    (eleven signeds segmentsCoding splitFromAnswers call (a .samples .now) (lent s) (λ e. c .if1 .taken (omega arith)), held (c .before))
+    let s = c.before.before.before.before.before in
+    let a = s.args in
+    let call = splitFromCall a.max-segments a.p a.q a.table.now in
+    (eleven signeds segmentsCoding splitFromAnswers call a.samples.now (lent s) (λ e. c.if1.true (omega arith)), held c.before)
 
 slice-aggregate-split-from-items : tie.Need-slice-aggregate-split-from-items
 slice-aggregate-split-from-items c =
-    sym (front-length {A = ℤ} (pos 0) readSamples _ (omega (arith, c .before .before .before .before .before .smaller .ensures)))
+    sym (front_length {A = ℤ} (pos 0) readSamples _ (omega (arith, c.before.before.before.before.before.smaller.ensures)))
 
 slice-aggregate-split-from-items-2 : tie.Need-slice-aggregate-split-from-items-2
 slice-aggregate-split-from-items-2 c =
-    sym (front-length {A = ℕ} 0 maxRows _ (omega (arith, c .before .before .before .before .before .smaller2 .ensures)))
+    sym (front_length {A = ℕ} 0 maxRows _ (omega (arith, c.before.before.before.before.before.smaller2.ensures)))
 
 slice-aggregate-split-from-items-3 : tie.Need-slice-aggregate-split-from-items-3
 slice-aggregate-split-from-items-3 c =
-    sym (front-length {A = ℤ} (pos 0) maxRows _ (omega (arith, c .before .before .before .before .before .smaller3 .ensures)))
+    sym (front_length {A = ℤ} (pos 0) maxRows _ (omega (arith, c.before.before.before.before.before.smaller3.ensures)))
 
 split-from-items-requires : tie.Need-split-from-items-requires
 split-from-items-requires c κs =
     record {
-      whole = omega (arith, c .before .before .before .before .before .before .before .before .if1 .left);
-      samples-fit = front-fits {A = ℤ} (pos 0) readSamples _ _ (c .before .before .before .before .before .before .before .smaller .ensures) refl (omega arith);
-      starts-fit = front-fits {A = ℕ} 0 maxRows _ _ (c .before .before .before .before .before .before .smaller2 .ensures) refl (omega arith);
-      levels-fit = front-fits {A = ℤ} (pos 0) maxRows _ _ (c .before .before .before .before .before .smaller3 .ensures) refl (omega arith);
+      whole = omega (arith, c.before.before.before.before.before.before.before.before.if1.false);
+      samples-fit = front_fits {A = ℤ} (pos 0) readSamples _ _ c.before.before.before.before.before.before.before.smaller.ensures refl (omega arith);
+      starts_fit = front_fits {A = ℕ} 0 maxRows _ _ c.before.before.before.before.before.before.smaller2.ensures refl (omega arith);
+      levels-fit = front_fits {A = ℤ} (pos 0) maxRows _ _ c.before.before.before.before.before.smaller3.ensures refl (omega arith);
     }
 
 returns-2 : tie.Need-returns-2
 returns-2 c =
-    let w = c .before .before .before .before .before .before .before in
-    (w .split-from-items .ensures, held (w .before .before .before .before .before .before .before .before .before .before))
+    let w = c.before.before.before.before.before.before.before in
+    (w.split-from-items.ensures, held w.before.before.before.before.before.before.before.before.before.before)
 
 pub split-from-spec : {M : Type 1} → statement M
 split-from-spec =
     tie.close
     (tie.spec
-    (λ c. search needs)
-    (λ c. search needs)
+    (λ c. search rules)
+    (λ c. search rules)
     returns
-    (λ c κs. search needs)
-    (λ c κs. search needs)
-    (λ c κs. search needs)
-    (λ c. search needs)
+    (λ c κs. search rules)
+    (λ c κs. search rules)
+    (λ c κs. search rules)
+    (λ c. search rules)
     slice-aggregate-split-from-items
-    (λ c. search needs)
+    (λ c. search rules)
     slice-aggregate-split-from-items-2
-    (λ c. search needs)
+    (λ c. search rules)
     slice-aggregate-split-from-items-3
     split-from-items-requires
-    (λ c. search needs)
-    (λ c. search needs)
+    (λ c. search rules)
+    (λ c. search rules)
     returns-2)

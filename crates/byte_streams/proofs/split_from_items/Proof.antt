@@ -1,30 +1,30 @@
 -- `byte_streams::split_from_items` meets its contract: three lists are read, the split is made on them, and two are encoded.
-use mathlib.Core.Path.{ap, _∙_}
-use Rattle·coding.proofs.Strings.{bytes-held}
-use Rattle·coding.proofs.Calls.{returned}
-use Rattle·stream.specs.SplitFrom.{segmentBuffers}
-use Rattle·byte_signals.proofs.SignalPaths.{samplesCut}
-use Rattle·byte_streams·specs.specs.Streams.{segmentStrings, splitFromAnswers, splitFromTold, splitFromCall}
-use Rattle·byte_streams·proofs.proofs.StreamCuts.{segmentsCut, split-from-cut}
-use borrow.Author.Needs.{needs}
-use Rattle·byte_streams·proofs.proofs.split_from_items.Statement.{statement}
-use Rattle·byte_streams·proofs.proofs.split_from_items.Tie as tie
+use mathlib.Core.Path.{ap, ◌∙◌}
+use Rattle.coding.proofs.Strings.{bytes-held}
+use Rattle.coding.proofs.Calls.{returned}
+use Rattle.stream.specs.SplitFrom.{segmentBuffers}
+use Rattle.byte_signals.proofs.SignalPaths.{samplesCut}
+use Rattle.byte_streams.specs.Streams.{segmentStrings, splitFromAnswers, splitFromTold, splitFromCall}
+use Rattle.byte_streams.proofs.StreamCuts.{segmentsCut, split-from-cut}
+use borrow.Author.Rules.{rules}
+use Rattle.byte_streams.proofs.split_from_items.Statement.{statement}
+use Rattle.byte_streams.proofs.split_from_items.Tie as tie
 
 -- The places of the code after each call, each from the next one.
 abbrev at-written : tie.After-slice-known7 → tie.After-encode-segments
-at-written c = c .before .before .before .before
+at-written c = c.before.before.before.before
 
 abbrev at-made : tie.After-encode-segments → tie.After-split-from
-at-made c = c .before .before .before .before .before .before .before .before
+at-made c = c.before.before.before.before.before.before.before.before
 
 abbrev at-segments : tie.After-split-from → tie.After-read-segments
-at-segments c = c .before .before .before .before .before .before .before
+at-segments c = c.before.before.before.before.before.before.before
 
 abbrev at-samples : tie.After-read-segments → tie.After-read-i16s
-at-samples c = c .before .before .before .before .before .before
+at-samples c = c.before.before.before.before.before.before
 
 abbrev at-start : tie.After-read-i16s → tie.Start
-at-start c = c .before .before .before .before .before .before .before
+at-start c = c.before.before.before.before.before.before.before
 
 returns : tie.Need-returns
 returns c =
@@ -33,37 +33,37 @@ returns c =
     let d = at-segments m in
     let r = at-samples d in
     let s = at-start r in
-    let k = r .before .before .before in
-    let a = s .args in
-    let made = m .split-from in
-    let after = made .last .1 .1 .1 .1 .1 in
-    let long = made .kept .1 .1 .1 .1 .1 in
-    let written = w .encode-segments .ensures in
-    let segments = d .read-segments in
-    let lists = segmentBuffers (a .start-items .now) (a .level-items .now) in
-    let left = segmentBuffers (after .0) (after .1 .0) in
-    let lent = segmentStrings (a .starts .now) (a .levels .now) in
-    let call = splitFromCall (a .max-segments) (a .p) (a .q) (a .table .now) in
-    returned samplesCut segmentsCut splitFromAnswers call (a .samples .now) lent (s .pre .whole)
-    (bytes-held (a .starts .now) (k .before .slice-known .given), bytes-held (a .levels .now) (k .slice-known2 .given))
-    (split-from-cut (a .max-segments) (a .p) (a .q) (a .table .now) _ _) (a .sample-items .now) lists left (made .result)
-    (ap splitFromTold (made .ensures .0)
-    ∙ (λ i. call (r .read-i16s .ensures i) (segmentBuffers (segments .ensures .starts-are i) (segments .ensures .levels-are i))))
-    (s .pre .samples-fit) (s .pre .starts-fit, s .pre .levels-fit)
-    (long .0 ∙ segments .kept .1 .1 .0 ∙ s .pre .starts-fit, long .1 .0 ∙ segments .kept .1 .1 .1 .0 ∙ s .pre .levels-fit)
-    _ (λ i. segmentStrings (written .starts-are i) (written .levels-are i))
+    let k = r.before.before.before in
+    let a = s.args in
+    let made = m.split_from in
+    let after = made.last.1.1.1.1.1 in
+    let long = made.kept.1.1.1.1.1 in
+    let written = w.encode-segments.ensures in
+    let segments = d.read-segments in
+    let lists = segmentBuffers a.start-items.now a.level-items.now in
+    let left = segmentBuffers after.0 after.1.0 in
+    let lent = segmentStrings a.starts.now a.levels.now in
+    let call = splitFromCall a.max-segments a.p a.q a.table.now in
+    returned samplesCut segmentsCut splitFromAnswers call a.samples.now lent s.pre.whole
+    (bytes-held a.starts.now k.before.slice-known.given, bytes-held a.levels.now k.slice-known2.given)
+    (split-from-cut a.max-segments a.p a.q a.table.now _ _) a.sample-items.now lists left made.result
+    (ap splitFromTold made.ensures.0
+    ∙ (λ i. call (r.read-i16s.ensures i) (segmentBuffers (segments.ensures.starts-are i) (segments.ensures.levels-are i))))
+    s.pre.samples-fit (s.pre.starts_fit, s.pre.levels-fit)
+    (long.0 ∙ segments.kept.1.1.0 ∙ s.pre.starts_fit, long.1.0 ∙ segments.kept.1.1.1.0 ∙ s.pre.levels-fit)
+    _ (λ i. segmentStrings (written.starts-are i) (written.levels-are i))
 
 pub split-from-items-spec : {M : Type 1} → statement M
 split-from-items-spec =
     tie.close
     (tie.spec
-    (λ c κs. search needs)
-    (λ c κs. search needs)
-    (λ c κs. search needs)
-    (λ c κs. search needs)
-    (λ c. search needs)
-    (λ c. search needs)
-    (λ c. search needs)
-    (λ c. search needs)
-    (λ c. search needs)
+    (λ c κs. search rules)
+    (λ c κs. search rules)
+    (λ c κs. search rules)
+    (λ c κs. search rules)
+    (λ c. search rules)
+    (λ c. search rules)
+    (λ c. search rules)
+    (λ c. search rules)
+    (λ c. search rules)
     returns)

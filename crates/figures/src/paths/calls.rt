@@ -1,14 +1,11 @@
 // One call on buffers of marks, or on a lent path, with all that it answers printed and the number of places that it changed.
 
-use testing::answer::Answer;
-use testing::answer::answer_of;
-use testing::list::MARK;
-use testing::list::copy;
-use testing::list::differences;
-use testing::list::within;
+use testing::answer::{Answer, answer_of};
+use testing::list::{MARK, copy, differences, within};
 use testing::text::print;
 
 // The number of places of three buffers: of sizes, losses and weights.
+#[derive(Drop)]
 pub struct Rooms {
     pub sizes: usize,
     pub losses: usize,

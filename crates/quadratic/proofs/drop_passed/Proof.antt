@@ -1,159 +1,159 @@
 -- `quadratic::drop_passed` meets its contract. The loop's invariant: the lists hold those of the first i models that are not passed over,
 -- and from place i on they are as they were, so that the models to come still stand there.
-use mathlib.Core.Path.{_≡_, sym, subst, _∙_}
-use mathlib.Core.Logic.{⊎-elim}
-use Prim.Native.Nat.{ℕ, _+_, _-_, _≤_}
+use mathlib.Core.Path.{◌≡◌, sym, subst, ◌∙◌}
+use mathlib.Core.Logic.{⊎_elim}
+use Prim.Native.Nat.{ℕ, ◌+◌, ◌-◌, ◌≤◌}
 use native.Mathlib.Omega.{arith}
 use lib.ListN.{length}
 use borrow.Author.Tests.{not-true, not-false}
-use Rattle·path.specs.Model.{Model, Lists, lists, modelAt, pathOf}
-use Rattle·path.specs.Update.{tried}
-use Rattle·path.specs.Inner.{Held, firstPlaces}
-use Rattle·path.proofs.Held.{setModel}
-use Rattle·build.proofs.Steps.{still-model}
-use Rattle·quadratic·proofs.proofs.Dropped.{dropped-none, dropped-one, kept-one}
-use Rattle·quadratic·proofs.proofs.drop_passed.Statement.{statement}
-use Rattle·quadratic·proofs.proofs.drop_passed.Tie as tie
+use Rattle.path.specs.Model.{Model, Lists, lists, model_at, pathOf}
+use Rattle.path.specs.Update.{tried}
+use Rattle.path.specs.Inner.{Held, firstPlaces}
+use Rattle.path.proofs.Held.{setModel}
+use Rattle.build.proofs.Steps.{still-model}
+use Rattle.quadratic.proofs.Dropped.{dropped-none, dropped-one, kept-one}
+use Rattle.quadratic.proofs.drop_passed.Statement.{statement}
+use Rattle.quadratic.proofs.drop_passed.Tie as tie
 
-abbrev Inv-loop : tie.InvT-loop
-Inv-loop sizes₀ losses₀ weights₀ count kept₀ i₀ sizes losses weights kept i =
+abbrev invariant-loop : tie.invariant-loop
+invariant-loop sizes₀ losses₀ weights₀ count kept₀ i₀ sizes losses weights kept i =
     (i ≤ count) × Held (tried (pathOf (firstPlaces count (lists sizes₀ losses₀ weights₀)) i)) (lists sizes₀ losses₀ weights₀) (lists sizes losses weights) kept i
 
-abbrev μ-loop : tie.MeasureT-loop
-μ-loop sizes₀ losses₀ weights₀ count kept₀ i₀ sizes losses weights kept i = count - i
+abbrev decreases-loop : tie.decreases-loop
+decreases-loop sizes₀ losses₀ weights₀ count kept₀ i₀ sizes losses weights kept i = count - i
 
 -- The start, and the turn of the loop that a place lies in.
-abbrev at-start : tie.At-loop Inv-loop μ-loop → tie.Start Inv-loop μ-loop
-at-start c = c .before .before .before .before
+abbrev at-start : tie.At-loop invariant-loop decreases-loop → tie.Start invariant-loop decreases-loop
+at-start c = c.before.before.before.before
 
-abbrev at-turn : tie.After-passed-over Inv-loop μ-loop → tie.In-loop Inv-loop μ-loop
-at-turn c = c .before .before .before .before .before
+abbrev at_turn : tie.After-passed-over invariant-loop decreases-loop → tie.In-loop invariant-loop decreases-loop
+at_turn c = c.before.before.before.before.before
 
 -- The lists as they were and as they are, the models, and what is left after one more of these.
-abbrev old : tie.At-loop Inv-loop μ-loop → Lists
-old c = lists (at-start c .args .sizes .now) (at-start c .args .losses .now) (at-start c .args .weights .now)
+abbrev old : tie.At-loop invariant-loop decreases-loop → Lists
+old c = lists (at-start c).args.sizes.now (at-start c).args.losses.now (at-start c).args.weights.now
 
-abbrev now : tie.At-loop Inv-loop μ-loop → Lists
-now c = lists (c .loop .sizes) (c .loop .losses) (c .loop .weights)
+abbrev now : tie.At-loop invariant-loop decreases-loop → Lists
+now c = lists c.loop.sizes c.loop.losses c.loop.weights
 
-abbrev models : tie.At-loop Inv-loop μ-loop → Lists
-models c = firstPlaces (at-start c .args .count) (old c)
+abbrev models : tie.At-loop invariant-loop decreases-loop → Lists
+models c = firstPlaces (at-start c).args.count (old c)
 
-abbrev OneMore : tie.At-loop Inv-loop μ-loop → Lists → ℕ → Type 0
-OneMore c t kept = Held (tried (pathOf (models c) (c .loop .i + 1))) (old c) t kept (c .loop .i + 1)
+abbrev OneMore : tie.At-loop invariant-loop decreases-loop → Lists → ℕ → Type 0
+OneMore c t kept = Held (tried (pathOf (models c) (c.loop.i + 1))) (old c) t kept (c.loop.i + 1)
 
 -- What is read is model i.
-abbrev new : tie.At-loop Inv-loop μ-loop → Model
-new c = modelAt (now c) (c .loop .i)
+abbrev new : tie.At-loop invariant-loop decreases-loop → Model
+new c = model_at (now c) c.loop.i
 
-is-next : (c : tie.In-loop Inv-loop μ-loop) → new (c .before) ≡ modelAt (models (c .before)) (c .before .loop .i)
+is-next : (c : tie.In-loop invariant-loop decreases-loop) → new c.before ≡ model_at (models c.before) c.before.loop.i
 is-next c =
-    let l = c .before in
-    still-model (tried (pathOf (models l) (l .loop .i))) (old l) (now l) (l .loop .kept) (l .loop .i) (at-start l .args .count) (l .loop .inv .1) (c .loop-test .taken)
+    let l = c.before in
+    still-model (tried (pathOf (models l) l.loop.i)) (old l) (now l) l.loop.auto l.loop.i (at-start l).args.count l.loop.invariant.1 c.loop-test.true
 
 -- It moves to the front, or is passed over.
-more : (c : tie.Then1 Inv-loop μ-loop) → (let l = at-turn (c .before) .before in OneMore l (setModel (now l) (l .loop .kept) (new l)) (l .loop .kept + 1))
+more : (c : tie.Then1 invariant-loop decreases-loop) → (let l = (at_turn c.before).before in OneMore l (setModel (now l) l.loop.kept (new l)) (l.loop.kept + 1))
 more c =
-    let turn = at-turn (c .before) in
-    let l = turn .before in
-    kept-one (models l) (old l) (now l) (l .loop .kept) (l .loop .i) (l .loop .inv .1) (new l) (is-next turn) (at-start l .pre) (turn .loop-test .taken)
-    (sym (c .before .passed-over .ensures (l .loop .sizes) (l .loop .weights) (new l .size) (new l .weight)) ∙ not-true _ (c .if1 .taken))
+    let turn = at_turn c.before in
+    let l = turn.before in
+    kept-one (models l) (old l) (now l) l.loop.kept l.loop.i l.loop.inv.1 (new l) (is-next turn) (at-start l).pre turn.loop-test.taken
+    (sym (c.before.passed_over.ensures l.loop.sizes l.loop.weights (new l).size (new l).weight) ∙ not-true _ c.if1.true)
 
-over : (c : tie.Else1 Inv-loop μ-loop) → (let l = at-turn (c .before) .before in OneMore l (now l) (l .loop .kept))
+over : (c : tie.Else1 invariant-loop decreases-loop) → (let l = (at_turn c.before).before in OneMore l (now l) l.loop.kept)
 over c =
-    let turn = at-turn (c .before) in
-    let l = turn .before in
-    dropped-one (models l) (old l) (now l) (l .loop .kept) (l .loop .i) (l .loop .inv .1) (new l) (is-next turn)
-    (sym (c .before .passed-over .ensures (l .loop .sizes) (l .loop .weights) (new l .size) (new l .weight)) ∙ not-false _ (c .if1 .left))
+    let turn = at_turn c.before in
+    let l = turn.before in
+    dropped-one (models l) (old l) (now l) l.loop.kept l.loop.i l.loop.inv.1 (new l) (is-next turn)
+    (sym (c.before.passed_over.ensures l.loop.sizes l.loop.weights (new l).size (new l).weight) ∙ not-false _ c.if1.false)
 
 -- The lists have the places that they had.
-in-sizes : (c : tie.At-loop Inv-loop μ-loop) → at-start c .args .count ≤ length (c .loop .sizes)
-in-sizes c = omega (arith, c .loop .inv .1 .sizes .long, at-start c .pre .fits .in-sizes)
+in-sizes : (c : tie.At-loop invariant-loop decreases-loop) → (at-start c).args.count ≤ length c.loop.sizes
+in-sizes c = omega (arith, c.loop.invariant.1.sizes.long, (at-start c).requires.fits.in-sizes)
 
-in-losses : (c : tie.At-loop Inv-loop μ-loop) → at-start c .args .count ≤ length (c .loop .losses)
-in-losses c = omega (arith, c .loop .inv .1 .losses .long, at-start c .pre .fits .in-losses)
+in-losses : (c : tie.At-loop invariant-loop decreases-loop) → (at-start c).args.count ≤ length c.loop.losses
+in-losses c = omega (arith, c.loop.invariant.1.losses.long, (at-start c).requires.fits.in-losses)
 
-in-weights : (c : tie.At-loop Inv-loop μ-loop) → at-start c .args .count ≤ length (c .loop .weights)
-in-weights c = omega (arith, c .loop .inv .1 .weights .long, at-start c .pre .fits .in-weights)
+in-weights : (c : tie.At-loop invariant-loop decreases-loop) → (at-start c).args.count ≤ length c.loop.weights
+in-weights c = omega (arith, c.loop.invariant.1.weights.long, (at-start c).requires.fits.in-weights)
 
-loop-holds : tie.Need-loop-holds Inv-loop μ-loop
+loop-holds : tie.Need-loop-init invariant-loop decreases-loop
 loop-holds c =
-    let a = c .before .before .before .args in
-    let t₀ = lists (a .sizes .now) (a .losses .now) (a .weights .now) in
-    (omega arith, dropped-none (firstPlaces (a .count) t₀) t₀)
+    let a = c.before.before.before.args in
+    let t₀ = lists a.sizes.now a.losses.now a.weights.now in
+    (omega arith, dropped-none (firstPlaces a.count t₀) t₀)
 
-mul-size : tie.Need-mul-size Inv-loop μ-loop
-mul-size c = omega (arith, in-sizes (c .before))
+mul-size : tie.Need-overflow-mul-size invariant-loop decreases-loop
+mul-size c = omega (arith, in-sizes c.before)
 
-slice-read-size : tie.Need-slice-read-size Inv-loop μ-loop
-slice-read-size c = omega (arith, in-sizes (c .before .before))
+slice-read-size : tie.Need-slice-read-size invariant-loop decreases-loop
+slice-read-size c = omega (arith, in-sizes c.before.before)
 
-mul-loss : tie.Need-mul-loss Inv-loop μ-loop
-mul-loss c = omega (arith, in-losses (c .before .before))
+mul-loss : tie.Need-overflow-mul-loss invariant-loop decreases-loop
+mul-loss c = omega (arith, in-losses c.before.before)
 
-slice-read-loss : tie.Need-slice-read-loss Inv-loop μ-loop
-slice-read-loss c = omega (arith, in-losses (c .before .before .before))
+slice-read-loss : tie.Need-slice-read-loss invariant-loop decreases-loop
+slice-read-loss c = omega (arith, in-losses c.before.before.before)
 
-mul-weight : tie.Need-mul-weight Inv-loop μ-loop
-mul-weight c = omega (arith, in-weights (c .before .before .before))
+mul-weight : tie.Need-overflow-mul-weight invariant-loop decreases-loop
+mul-weight c = omega (arith, in-weights c.before.before.before)
 
-slice-read-weight : tie.Need-slice-read-weight Inv-loop μ-loop
-slice-read-weight c = omega (arith, in-weights (c .before .before .before .before))
+slice-read-weight : tie.Need-slice-read-weight invariant-loop decreases-loop
+slice-read-weight c = omega (arith, in-weights c.before.before.before.before)
 
-passed-over-requires : tie.Need-passed-over-requires Inv-loop μ-loop
-passed-over-requires c κs = let l = c .before .before .before .before .before in omega (arith, in-losses l, l .loop .inv .1 .most)
+passed-over-requires : tie.Need-passed-over-requires invariant-loop decreases-loop
+passed-over-requires c κs = let l = c.before.before.before.before.before in omega (arith, in-losses l, l.loop.invariant.1.most)
 
-mul-sizes : tie.Need-mul-sizes Inv-loop μ-loop
-mul-sizes c = let l = at-turn (c .before) .before in omega (arith, l .loop .inv .1 .most, in-sizes l)
+mul-sizes : tie.Need-overflow-mul-sizes invariant-loop decreases-loop
+mul-sizes c = let l = (at_turn c.before).before in omega (arith, l.loop.inv.1.most, in-sizes l)
 
-slice-write-sizes : tie.Need-slice-write-sizes Inv-loop μ-loop
-slice-write-sizes c = let l = at-turn (c .before) .before in omega (arith, l .loop .inv .1 .most, in-sizes l)
+slice-write-sizes : tie.Need-slice-write-sizes invariant-loop decreases-loop
+slice-write-sizes c = let l = (at_turn c.before).before in omega (arith, l.loop.inv.1.most, in-sizes l)
 
-mul-losses : tie.Need-mul-losses Inv-loop μ-loop
-mul-losses c = let l = at-turn (c .before) .before in omega (arith, l .loop .inv .1 .most, in-losses l)
+mul-losses : tie.Need-overflow-mul-losses invariant-loop decreases-loop
+mul-losses c = let l = (at_turn c.before).before in omega (arith, l.loop.inv.1.most, in-losses l)
 
-slice-write-losses : tie.Need-slice-write-losses Inv-loop μ-loop
-slice-write-losses c = let l = at-turn (c .before) .before in omega (arith, l .loop .inv .1 .most, in-losses l)
+slice-write-losses : tie.Need-slice-write-losses invariant-loop decreases-loop
+slice-write-losses c = let l = (at_turn c.before).before in omega (arith, l.loop.inv.1.most, in-losses l)
 
-mul-weights : tie.Need-mul-weights Inv-loop μ-loop
-mul-weights c = let l = at-turn (c .before) .before in omega (arith, l .loop .inv .1 .most, in-weights l)
+mul-weights : tie.Need-overflow-mul-weights invariant-loop decreases-loop
+mul-weights c = let l = (at_turn c.before).before in omega (arith, l.loop.inv.1.most, in-weights l)
 
-slice-write-weights : tie.Need-slice-write-weights Inv-loop μ-loop
-slice-write-weights c = let l = at-turn (c .before) .before in omega (arith, l .loop .inv .1 .most, in-weights l)
+slice-write-weights : tie.Need-slice-write-weights invariant-loop decreases-loop
+slice-write-weights c = let l = (at_turn c.before).before in omega (arith, l.loop.inv.1.most, in-weights l)
 
-add-kept : tie.Need-add-kept Inv-loop μ-loop
-add-kept c = let l = at-turn (c .before) .before in omega (arith, l .loop .inv .1 .most, at-start l .pre .few)
+add_kept : tie.Need-overflow-add-kept invariant-loop decreases-loop
+add_kept c = let l = (at_turn c.before).before in omega (arith, l.loop.inv.1.most, (at-start l).pre.few)
 
-add-i : tie.Need-add-i Inv-loop μ-loop
+add-i : tie.Need-overflow-add-i invariant-loop decreases-loop
 add-i c = omega arith
 
-loop-less : tie.Need-loop-less Inv-loop μ-loop
+loop-less : tie.Need-loop-smaller invariant-loop decreases-loop
 loop-less c = omega arith
 
-loop-again : tie.Need-loop-again Inv-loop μ-loop
+loop-again : tie.Need-loop-preserved invariant-loop decreases-loop
 loop-again c = (
   omega arith,
-  ⊎-elim
-      (λ w. rw (w .1, w .2, w .3, w .4) (more record { before = c .before; if1 = w .0 }))
-      (λ w. rw (w .1, w .2, w .3, w .4) (over record { before = c .before; if1 = w .0 }))
-      (c .if1 .came),
+  ⊎_elim
+      (λ w. rw (w.1, w.2, w.3, w.4) (more record { before = c.before; if1 = w.0 }))
+      (λ w. rw (w.1, w.2, w.3, w.4) (over record { before = c.before; if1 = w.0 }))
+      c.if1.branch,
 )
 
-same-length : tie.Need-same-length Inv-loop μ-loop
-same-length c = c .before .loop .inv .1 .sizes .long
+same_length : tie.Need-same-length invariant-loop decreases-loop
+same_length c = c.before.loop.invariant.1.sizes.long
 
-same-length-2 : tie.Need-same-length-2 Inv-loop μ-loop
-same-length-2 c = c .before .loop .inv .1 .losses .long
+same-length-2 : tie.Need-same-length-2 invariant-loop decreases-loop
+same-length-2 c = c.before.loop.invariant.1.losses.long
 
-same-length-3 : tie.Need-same-length-3 Inv-loop μ-loop
-same-length-3 c = c .before .loop .inv .1 .weights .long
+same-length-3 : tie.Need-same-length-3 invariant-loop decreases-loop
+same-length-3 c = c.before.loop.invariant.1.weights.long
 
-returns : tie.Need-returns Inv-loop μ-loop
+returns : tie.Need-returns invariant-loop decreases-loop
 returns c =
-    let l = c .before in
-    let e : l .loop .i ≡ at-start l .args .count = omega arith in
-    subst (λ (i : ℕ). Held (tried (pathOf (models l) i)) (old l) (now l) (l .loop .kept) i) e (l .loop .inv .1)
+    let l = c.before in
+    let e : l.loop.i ≡ (at-start l).args.count = omega arith in
+    subst (λ (i : ℕ). Held (tried (pathOf (models l) i)) (old l) (now l) l.loop.auto i) e l.loop.invariant.1
 
 pub drop-passed-spec : {M : Type 1} → statement M
-drop-passed-spec = tie.close (tie.spec Inv-loop μ-loop loop-holds mul-size slice-read-size mul-loss slice-read-loss mul-weight slice-read-weight passed-over-requires
-    mul-sizes slice-write-sizes mul-losses slice-write-losses mul-weights slice-write-weights add-kept add-i loop-less loop-again same-length same-length-2 same-length-3 returns)
+drop-passed-spec = tie.close (tie.spec invariant-loop decreases-loop loop-holds mul-size slice-read-size mul-loss slice-read-loss mul-weight slice-read-weight passed-over-requires
+    mul-sizes slice-write-sizes mul-losses slice-write-losses mul-weights slice-write-weights add_kept add-i loop-less loop-again same_length same-length-2 same-length-3 returns)

@@ -1,113 +1,113 @@
 -- `quadratic::find_nearest` meets its contract. The loop's invariant: `best` is the place of the nearest of the first i models.
-use mathlib.Core.Path.{_≡_, sym, subst, _∙_}
-use mathlib.Core.Logic.{⊎-elim}
+use mathlib.Core.Path.{◌≡◌, sym, subst, ◌∙◌}
+use mathlib.Core.Logic.{⊎_elim}
 use mathlib.Core.List.{List}
-use Prim.Native.Nat.{ℕ, _+_, _-_, _≤_, _<_}
+use Prim.Native.Nat.{ℕ, ◌+◌, ◌-◌, ◌≤◌, ◌<◌}
 use native.Mathlib.Omega.{arith}
-use Rattle·path.specs.Model.{lists, modelAt}
-use Rattle·quadratic·specs.specs.Inner.{NearestAt}
-use Rattle·quadratic·proofs.proofs.Searches.{nearest-first, nearest-now, nearest-still}
-use Rattle·quadratic·proofs.proofs.find_nearest.Statement.{statement}
-use Rattle·quadratic·proofs.proofs.find_nearest.Tie as tie
+use Rattle.path.specs.Model.{lists, model_at}
+use Rattle.quadratic.specs.Inner.{NearestAt}
+use Rattle.quadratic.proofs.Searches.{nearest-first, nearest-now, nearest-still}
+use Rattle.quadratic.proofs.find_nearest.Statement.{statement}
+use Rattle.quadratic.proofs.find_nearest.Tie as tie
 
-abbrev Inv-loop : tie.InvT-loop
-Inv-loop losses weights at loss weight best₀ i₀ best i = (i ≤ at) × (best < i) × ((s : List ℕ) → NearestAt (lists s losses weights) (modelAt (lists s losses weights) at) i best)
+abbrev invariant-loop : tie.invariant-loop
+invariant-loop losses weights at loss weight best₀ i₀ best i = (i ≤ at) × (best < i) × ((s : List ℕ) → NearestAt (lists s losses weights) (model_at (lists s losses weights) at) i best)
 
-abbrev μ-loop : tie.MeasureT-loop
-μ-loop losses weights at loss weight best₀ i₀ best i = at - i
+abbrev decreases-loop : tie.decreases-loop
+decreases-loop losses weights at loss weight best₀ i₀ best i = at - i
 
 -- Model i is the nearest so far.
-now-nearest : (c : tie.Then1 Inv-loop μ-loop) → (s : List ℕ) → NearestAt (lists s
-    (c .before .before .before .before .before .before .before .before .before .before .before .before .args .losses .now)
-    (c .before .before .before .before .before .before .before .before .before .before .before .before .args .weights .now)) (modelAt (lists s
-    (c .before .before .before .before .before .before .before .before .before .before .before .before .args .losses .now)
-    (c .before .before .before .before .before .before .before .before .before .before .before .before .args .weights .now))
-    (c .before .before .before .before .before .before .before .before .before .before .before .before .args .at)) (c .before .before .before .before .before .before .before .loop .i + 1) (c .before .before .before .before .before .before .before .loop .i)
+now-nearest : (c : tie.Then1 invariant-loop decreases-loop) → (s : List ℕ) → NearestAt (lists s
+    c.before.before.before.before.before.before.before.before.before.before.before.before.args.losses.now
+    c.before.before.before.before.before.before.before.before.before.before.before.before.args.weights.now) (model_at (lists s
+    c.before.before.before.before.before.before.before.before.before.before.before.before.args.losses.now
+    c.before.before.before.before.before.before.before.before.before.before.before.before.args.weights.now)
+    c.before.before.before.before.before.before.before.before.before.before.before.before.args.at) (c.before.before.before.before.before.before.before.loop.i + 1) c.before.before.before.before.before.before.before.loop.i
 now-nearest c s =
-    let a = c .before .before .before .before .before .before .before .before .before .before .before .before .args in
-    let lp = c .before .before .before .before .before .before .before .loop in
-    nearest-now (lists s (a .losses .now) (a .weights .now)) (modelAt (lists s (a .losses .now) (a .weights .now)) (a .at)) (lp .i) (lp .best) (lp .inv .2 s) (sym (c .before .is-nearer .ensures) ∙ c .if1 .taken)
+    let a = c.before.before.before.before.before.before.before.before.before.before.before.before.args in
+    let lp = c.before.before.before.before.before.before.before.loop in
+    nearest-now (lists s a.losses.now a.weights.now) (model_at (lists s a.losses.now a.weights.now) a.at) lp.i lp.best (lp.invariant.2 s) (sym c.before.is-nearer.ensures ∙ c.if1.true)
 
 -- Another one still is.
-still-nearest : (c : tie.Else1 Inv-loop μ-loop) → (s : List ℕ) → NearestAt (lists s
-    (c .before .before .before .before .before .before .before .before .before .before .before .before .args .losses .now)
-    (c .before .before .before .before .before .before .before .before .before .before .before .before .args .weights .now)) (modelAt (lists s
-    (c .before .before .before .before .before .before .before .before .before .before .before .before .args .losses .now)
-    (c .before .before .before .before .before .before .before .before .before .before .before .before .args .weights .now))
-    (c .before .before .before .before .before .before .before .before .before .before .before .before .args .at)) (c .before .before .before .before .before .before .before .loop .i + 1) (c .before .before .before .before .before .before .before .loop .best)
+still-nearest : (c : tie.Else1 invariant-loop decreases-loop) → (s : List ℕ) → NearestAt (lists s
+    c.before.before.before.before.before.before.before.before.before.before.before.before.args.losses.now
+    c.before.before.before.before.before.before.before.before.before.before.before.before.args.weights.now) (model_at (lists s
+    c.before.before.before.before.before.before.before.before.before.before.before.before.args.losses.now
+    c.before.before.before.before.before.before.before.before.before.before.before.before.args.weights.now)
+    c.before.before.before.before.before.before.before.before.before.before.before.before.args.at) (c.before.before.before.before.before.before.before.loop.i + 1) c.before.before.before.before.before.before.before.loop.best
 still-nearest c s =
-    let a = c .before .before .before .before .before .before .before .before .before .before .before .before .args in
-    let lp = c .before .before .before .before .before .before .before .loop in
-    nearest-still (lists s (a .losses .now) (a .weights .now)) (modelAt (lists s (a .losses .now) (a .weights .now)) (a .at)) (lp .i) (lp .best) (lp .inv .2 s) (sym (c .before .is-nearer .ensures) ∙ c .if1 .left)
+    let a = c.before.before.before.before.before.before.before.before.before.before.before.before.args in
+    let lp = c.before.before.before.before.before.before.before.loop in
+    nearest-still (lists s a.losses.now a.weights.now) (model_at (lists s a.losses.now a.weights.now) a.at) lp.i lp.best (lp.invariant.2 s) (sym c.before.is-nearer.ensures ∙ c.if1.false)
 
-mul-loss : tie.Need-mul-loss Inv-loop μ-loop
-mul-loss c = omega (arith, c .before .before .pre .1 .in-losses, c .before .before .pre .1 .in-weights)
+mul-loss : tie.Need-overflow-mul-loss invariant-loop decreases-loop
+mul-loss c = omega (arith, c.before.before.requires.1.in-losses, c.before.before.requires.1.in-weights)
 
-shared-slice-read-loss : tie.Need-shared-slice-read-loss Inv-loop μ-loop
-shared-slice-read-loss c = omega (arith, c .before .before .before .pre .1 .in-losses, c .before .before .before .pre .1 .in-weights)
+shared-slice-read-loss : tie.Need-shared-slice-read-loss invariant-loop decreases-loop
+shared-slice-read-loss c = omega (arith, c.before.before.before.requires.1.in-losses, c.before.before.before.requires.1.in-weights)
 
-mul-weight : tie.Need-mul-weight Inv-loop μ-loop
-mul-weight c = omega (arith, c .before .before .before .pre .1 .in-losses, c .before .before .before .pre .1 .in-weights)
+mul-weight : tie.Need-overflow-mul-weight invariant-loop decreases-loop
+mul-weight c = omega (arith, c.before.before.before.requires.1.in-losses, c.before.before.before.requires.1.in-weights)
 
-shared-slice-read-weight : tie.Need-shared-slice-read-weight Inv-loop μ-loop
-shared-slice-read-weight c = omega (arith, c .before .before .before .before .pre .1 .in-losses, c .before .before .before .before .pre .1 .in-weights)
+shared-slice-read-weight : tie.Need-shared-slice-read-weight invariant-loop decreases-loop
+shared-slice-read-weight c = omega (arith, c.before.before.before.before.requires.1.in-losses, c.before.before.before.before.requires.1.in-weights)
 
-loop-holds : tie.Need-loop-holds Inv-loop μ-loop
+loop-holds : tie.Need-loop-init invariant-loop decreases-loop
 loop-holds c =
-    let a = c .before .before .before .before .args in
-    (c .before .before .before .before .pre .0, omega arith, λ s. nearest-first (lists s (a .losses .now) (a .weights .now)) (modelAt (lists s (a .losses .now) (a .weights .now)) (a .at)))
+    let a = c.before.before.before.before.args in
+    (c.before.before.before.before.requires.0, omega arith, λ s. nearest-first (lists s a.losses.now a.weights.now) (model_at (lists s a.losses.now a.weights.now) a.at))
 
-mul-is-nearer : tie.Need-mul-is-nearer Inv-loop μ-loop
-mul-is-nearer c = omega (arith, c .before .before .before .before .before .before .pre .1 .in-losses, c .before .before .before .before .before .before .pre .1 .in-weights, c .before .loop .inv .1)
+mul-is-nearer : tie.Need-overflow-mul-is-nearer invariant-loop decreases-loop
+mul-is-nearer c = omega (arith, c.before.before.before.before.before.before.requires.1.in-losses, c.before.before.before.before.before.before.requires.1.in-weights, c.before.loop.invariant.1)
 
-shared-slice-read-is-nearer : tie.Need-shared-slice-read-is-nearer Inv-loop μ-loop
-shared-slice-read-is-nearer c = omega (arith, c .before .before .before .before .before .before .before .pre .1 .in-losses, c .before .before .before .before .before .before .before .pre .1 .in-weights, c .before .before .loop .inv .1)
+shared-slice-read-is-nearer : tie.Need-shared-slice-read-is-nearer invariant-loop decreases-loop
+shared-slice-read-is-nearer c = omega (arith, c.before.before.before.before.before.before.before.requires.1.in-losses, c.before.before.before.before.before.before.before.requires.1.in-weights, c.before.before.loop.invariant.1)
 
-mul-is-nearer-2 : tie.Need-mul-is-nearer-2 Inv-loop μ-loop
-mul-is-nearer-2 c = omega (arith, c .before .before .before .before .before .before .before .pre .1 .in-losses, c .before .before .before .before .before .before .before .pre .1 .in-weights, c .before .before .loop .inv .1)
+mul-is-nearer-2 : tie.Need-overflow-mul-is-nearer-2 invariant-loop decreases-loop
+mul-is-nearer-2 c = omega (arith, c.before.before.before.before.before.before.before.requires.1.in-losses, c.before.before.before.before.before.before.before.requires.1.in-weights, c.before.before.loop.invariant.1)
 
-shared-slice-read-is-nearer-2 : tie.Need-shared-slice-read-is-nearer-2 Inv-loop μ-loop
-shared-slice-read-is-nearer-2 c = omega (arith, c .before .before .before .before .before .before .before .before .pre .1 .in-losses, c .before .before .before .before .before .before .before .before .pre .1 .in-weights, c .before .before .before .loop .inv .1)
+shared-slice-read-is-nearer-2 : tie.Need-shared-slice-read-is-nearer-2 invariant-loop decreases-loop
+shared-slice-read-is-nearer-2 c = omega (arith, c.before.before.before.before.before.before.before.before.requires.1.in-losses, c.before.before.before.before.before.before.before.before.requires.1.in-weights, c.before.before.before.loop.invariant.1)
 
-mul-is-nearer-3 : tie.Need-mul-is-nearer-3 Inv-loop μ-loop
-mul-is-nearer-3 c = omega (arith, c .before .before .before .before .before .before .before .before .pre .1 .in-losses, c .before .before .before .before .before .before .before .before .pre .1 .in-weights)
+mul-is-nearer-3 : tie.Need-overflow-mul-is-nearer-3 invariant-loop decreases-loop
+mul-is-nearer-3 c = omega (arith, c.before.before.before.before.before.before.before.before.requires.1.in-losses, c.before.before.before.before.before.before.before.before.requires.1.in-weights)
 
-shared-slice-read-is-nearer-3 : tie.Need-shared-slice-read-is-nearer-3 Inv-loop μ-loop
-shared-slice-read-is-nearer-3 c = omega (arith, c .before .before .before .before .before .before .before .before .before .pre .1 .in-losses, c .before .before .before .before .before .before .before .before .before .pre .1 .in-weights)
+shared-slice-read-is-nearer-3 : tie.Need-shared-slice-read-is-nearer-3 invariant-loop decreases-loop
+shared-slice-read-is-nearer-3 c = omega (arith, c.before.before.before.before.before.before.before.before.before.requires.1.in-losses, c.before.before.before.before.before.before.before.before.before.requires.1.in-weights)
 
-mul-is-nearer-4 : tie.Need-mul-is-nearer-4 Inv-loop μ-loop
-mul-is-nearer-4 c = omega (arith, c .before .before .before .before .before .before .before .before .before .pre .1 .in-losses, c .before .before .before .before .before .before .before .before .before .pre .1 .in-weights)
+mul-is-nearer-4 : tie.Need-overflow-mul-is-nearer-4 invariant-loop decreases-loop
+mul-is-nearer-4 c = omega (arith, c.before.before.before.before.before.before.before.before.before.requires.1.in-losses, c.before.before.before.before.before.before.before.before.before.requires.1.in-weights)
 
-shared-slice-read-is-nearer-4 : tie.Need-shared-slice-read-is-nearer-4 Inv-loop μ-loop
-shared-slice-read-is-nearer-4 c = omega (arith, c .before .before .before .before .before .before .before .before .before .before .pre .1 .in-losses, c .before .before .before .before .before .before .before .before .before .before .pre .1 .in-weights)
+shared-slice-read-is-nearer-4 : tie.Need-shared-slice-read-is-nearer-4 invariant-loop decreases-loop
+shared-slice-read-is-nearer-4 c = omega (arith, c.before.before.before.before.before.before.before.before.before.before.requires.1.in-losses, c.before.before.before.before.before.before.before.before.before.before.requires.1.in-weights)
 
-is-nearer-requires : tie.Need-is-nearer-requires Inv-loop μ-loop
+is-nearer-requires : tie.Need-is-nearer-requires invariant-loop decreases-loop
 is-nearer-requires c κs =
-    let lp = c .before .before .before .before .before .loop in
-    c .before .before .before .before .before .before .before .before .before .before .pre .1 .near (lp .best) (lp .i) (lp .inv .1) (c .before .before .before .before .loop-test .taken)
+    let lp = c.before.before.before.before.before.loop in
+    c.before.before.before.before.before.before.before.before.before.before.requires.1.near lp.best lp.i lp.invariant.1 c.before.before.before.before.loop-test.true
 
-add-i : tie.Need-add-i Inv-loop μ-loop
+add-i : tie.Need-overflow-add-i invariant-loop decreases-loop
 add-i c = omega arith
 
-loop-less : tie.Need-loop-less Inv-loop μ-loop
+loop-less : tie.Need-loop-smaller invariant-loop decreases-loop
 loop-less c = omega arith
 
-loop-again : tie.Need-loop-again Inv-loop μ-loop
+loop-again : tie.Need-loop-preserved invariant-loop decreases-loop
 loop-again c = (
   omega arith,
-  ⊎-elim (λ w. rw (w .1) (omega arith)) (λ w. rw (w .1) (omega (arith, c .before .before .before .before .before .before .before .loop .inv .1))) (c .if1 .came),
-  ⊎-elim
-      (λ w. rw (w .1) (now-nearest record { before = c .before; if1 = w .0 }))
-      (λ w. rw (w .1) (still-nearest record { before = c .before; if1 = w .0 }))
-      (c .if1 .came),
+  ⊎_elim (λ w. rw w.1 (omega arith)) (λ w. rw w.1 (omega (arith, c.before.before.before.before.before.before.before.loop.invariant.1))) c.if1.branch,
+  ⊎_elim
+      (λ w. rw w.1 (now-nearest record { before = c.before; if1 = w.0 }))
+      (λ w. rw w.1 (still-nearest record { before = c.before; if1 = w.0 }))
+      c.if1.branch,
 )
 
-returns : tie.Need-returns Inv-loop μ-loop
+returns : tie.Need-returns invariant-loop decreases-loop
 returns c s =
-    let a = c .before .before .before .before .before .before .args in
-    let lp = c .before .loop in
-    let e : lp .i ≡ a .at = omega arith in
-    subst (λ (n : ℕ). NearestAt (lists s (a .losses .now) (a .weights .now)) (modelAt (lists s (a .losses .now) (a .weights .now)) (a .at)) n (lp .best)) e (lp .inv .2 s)
+    let a = c.before.before.before.before.before.before.args in
+    let lp = c.before.loop in
+    let e : lp.i ≡ a.at = omega arith in
+    subst (λ (n : ℕ). NearestAt (lists s a.losses.now a.weights.now) (model_at (lists s a.losses.now a.weights.now) a.at) n lp.best) e (lp.invariant.2 s)
 
 pub find-nearest-spec : {M : Type 1} → statement M
-find-nearest-spec = tie.close (tie.spec Inv-loop μ-loop mul-loss shared-slice-read-loss mul-weight shared-slice-read-weight loop-holds mul-is-nearer shared-slice-read-is-nearer mul-is-nearer-2 shared-slice-read-is-nearer-2 mul-is-nearer-3 shared-slice-read-is-nearer-3 mul-is-nearer-4 shared-slice-read-is-nearer-4 is-nearer-requires add-i loop-less loop-again returns)
+find-nearest-spec = tie.close (tie.spec invariant-loop decreases-loop mul-loss shared-slice-read-loss mul-weight shared-slice-read-weight loop-holds mul-is-nearer shared-slice-read-is-nearer mul-is-nearer-2 shared-slice-read-is-nearer-2 mul-is-nearer-3 shared-slice-read-is-nearer-3 mul-is-nearer-4 shared-slice-read-is-nearer-4 is-nearer-requires add-i loop-less loop-again returns)

@@ -1,43 +1,43 @@
 -- `byte_paths::entries::model_refusal` meets its contract: it goes by the last entry alone.
-use mathlib.Core.Path.{_≡_, ap, _∙_}
-use mathlib.Core.List.{[], _∷_}
+use mathlib.Core.Path.{◌≡◌, ap, ◌∙◌}
+use mathlib.Core.List.{[], ◌∷◌}
 use Prim.Native.Nat.{ℕ, zero, suc, min}
 use native.Mathlib.Omega.{arith}
 use lib.ListN.{take}
-use Rattle·coding.specs.Models.{modelsCoding}
-use Rattle·path.specs.Model.{Model, Lists, lists, pathOf}
-use Rattle·path.specs.Model.{model}
-use Rattle·path.proofs.Order.{same-checks}
-use Rattle·byte_paths·specs.specs.Inner.{LastIs}
-use borrow.Author.Needs.{needs}
-use Rattle·byte_paths·proofs.proofs.entries.model_refusal.Statement.{statement}
-use Rattle·byte_paths·proofs.proofs.entries.model_refusal.Tie as tie
+use Rattle.coding.specs.Models.{modelsCoding}
+use Rattle.path.specs.Model.{Model, Lists, lists, pathOf}
+use Rattle.path.specs.Model.{model}
+use Rattle.path.proofs.Order.{same-checks}
+use Rattle.byte_paths.specs.Inner.{LastIs}
+use borrow.Author.Rules.{rules}
+use Rattle.byte_paths.proofs.entries.model_refusal.Statement.{statement}
+use Rattle.byte_paths.proofs.entries.model_refusal.Tie as tie
 
 -- A path's last entry stands in lists of one place.
-one-place : (t : Lists) (n k : ℕ) (m : Model) → k ≡ min n 1 → LastIs (pathOf t n) m → take 1 (pathOf (lists (m .size ∷ []) (m .loss ∷ []) (m .weight ∷ [])) k) ≡ take 1 (pathOf t n)
+one_place : (t : Lists) (n k : ℕ) (m : Model) → k ≡ min n 1 → LastIs (pathOf t n) m → take 1 (pathOf (lists (m.size ∷ []) (m.loss ∷ []) (m.weight ∷ [])) k) ≡ take 1 (pathOf t n)
 unfolding pathOf
-one-place t zero k m e h = rw e
-one-place t (suc n) k m e h = let one : k ≡ 1 = omega arith in rw one (ap (λ (d : Model). d ∷ []) h)
+one_place t zero k m e h = rw e
+one_place t (suc n) k m e h = let one : k ≡ 1 = omega arith in rw one (ap (λ (d : Model). d ∷ []) h)
 
 returns : tie.Need-returns
 returns c =
-    let a = c .before .before .before .before .before .before .before .before .before .args in
-    let last = c .before .before .before .before .before .last-entry in
-    let r = last .result in
-    let t = modelsCoding .numbers (lists (a .sizes .now) (a .losses .now) (a .weights .now)) in
-    let one = lists (r .size ∷ []) (r .loss ∷ []) (r .weight ∷ []) in
-    let k = c .before .smaller in
-    c .model-refusal .ensures
-    ∙ same-checks (pathOf one (k .result)) (pathOf t (a .entries)) (one-place t (a .entries) (k .result) (model (r .size) (r .loss) (r .weight)) (k .ensures) (last .ensures)) (model (a .size) (a .loss) (a .weight))
+    let a = c.before.before.before.before.before.before.before.before.before.args in
+    let last = c.before.before.before.before.before.last_entry in
+    let r = last.result in
+    let t = modelsCoding.numbers (lists a.sizes.now a.losses.now a.weights.now) in
+    let one = lists (r.size ∷ []) (r.loss ∷ []) (r.weight ∷ []) in
+    let k = c.before.smaller in
+    c.model-refusal.ensures
+    ∙ same-checks (pathOf one k.result) (pathOf t a.entries) (one_place t a.entries k.result (model r.size r.loss r.weight) k.ensures last.ensures) (model a.size a.loss a.weight)
 
 pub model-refusal-spec : {M : Type 1} → statement M
 model-refusal-spec =
     tie.close
     (tie.spec
-    (λ c κs. search needs)
-    (λ c. search needs)
-    (λ c. search needs)
-    (λ c. search needs)
-    (λ c κs. search needs)
-    (λ c κs. search needs)
+    (λ c κs. search rules)
+    (λ c. search rules)
+    (λ c. search rules)
+    (λ c. search rules)
+    (λ c κs. search rules)
+    (λ c κs. search rules)
     returns)

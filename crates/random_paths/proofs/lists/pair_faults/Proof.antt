@@ -1,8 +1,8 @@
 -- `random_paths::lists::pair_faults` is safe and ends. The loop counts its index up to the end of the range.
-use Prim.Native.Nat.{_-_}
-use borrow.Author.Needs.{needs}
-use Rattle·random_paths·proofs.proofs.lists.pair_faults.Statement.{statement}
-use Rattle·random_paths·proofs.proofs.lists.pair_faults.Tie as tie
+use Prim.Native.Nat.{◌-◌}
+use borrow.Author.Rules.{rules}
+use Rattle.random_paths.proofs.lists.pair_faults.Statement.{statement}
+use Rattle.random_paths.proofs.lists.pair_faults.Tie as tie
 
 pub pair-faults-spec : {M : Type 1} → statement M
 pair-faults-spec =
@@ -10,21 +10,21 @@ pair-faults-spec =
     (tie.spec
     (λ sizes losses weights path-sizes path-losses path-weights entries i j p q faults₀ k₀ faults k. Unit)
     (λ sizes losses weights path-sizes path-losses path-weights entries i j p q faults₀ k₀ faults k. 3 - k)
-    (λ c κs. search needs)
-    (λ c κs. search needs)
-    (λ c. search needs)
-    (λ c κs. search needs)
-    (λ c κs. search needs)
-    (λ c κs. search needs)
-    (λ c κs. search needs)
-    (λ c κs. search needs)
-    (λ c κs. search needs)
-    (λ c. search needs)
-    (λ c κs. search needs)
-    (λ c κs. search needs)
-    (λ c κs. search needs)
-    (λ c κs. search needs)
-    (λ c. search needs)
-    (λ c. search needs)
-    (λ c. search needs)
-    (λ c. search needs))
+    (λ c κs. search rules)
+    (λ c κs. search rules)
+    (λ c. search rules)
+    (λ c κs. search rules)
+    (λ c κs. search rules)
+    (λ c κs. search rules)
+    (λ c κs. search rules)
+    (λ c κs. search rules)
+    (λ c κs. search rules)
+    (λ c. search rules)
+    (λ c κs. search rules)
+    (λ c κs. search rules)
+    (λ c κs. search rules)
+    (λ c κs. search rules)
+    (λ c. search rules)
+    (λ c. search rules)
+    (λ c. search rules)
+    (λ c. search rules))

@@ -1,22 +1,19 @@
 -- `testing::list::copy` is safe and ends. The loop counts its index up to the end of the range.
-use Prim.Native.Nat.{_<_, _-_, _^_}
-use mathlib.Core.Path.{_≡_}
-use lib.ListN.{length}
-use borrow.Author.Needs.{needs}
-use Rattle·testing·proofs.proofs.list.copy.Statement.{statement}
-use Rattle·testing·proofs.proofs.list.copy.Tie as tie
+use Rattle.std.proofs.Common.{◌≡◌, ◌-◌, ◌^◌, ◌<◌, length, rules}
+use Rattle.testing.proofs.list.copy.Statement.{statement}
+use Rattle.testing.proofs.list.copy.Tie as tie
 
-pub copy-spec : {M : Type 1} → statement M
-copy-spec =
+pub copy_spec : {M : Type 1} → statement M
+copy_spec =
     tie.close
     (tie.spec
     (λ from to₀ i₀ i-end to i. (i-end < 2 ^ 64) × (length to ≡ length to₀))
     (λ from to₀ i₀ i-end to i. i-end - i)
-    (λ c. search needs)
-    (λ c κs. search needs)
-    (λ c κs. search needs)
-    (λ c. search needs)
-    (λ c. search needs)
-    (λ c. search needs)
-    (λ c. search needs)
-    (λ c. search needs))
+    (λ c. search rules)
+    (λ c κs. search rules)
+    (λ c κs. search rules)
+    (λ c. search rules)
+    (λ c. search rules)
+    (λ c. search rules)
+    (λ c. search rules)
+    (λ c. search rules))

@@ -1,10 +1,7 @@
 -- `testing::list::count_up` is safe and ends. The loop counts its index up to the end of the range.
-use Prim.Native.Nat.{_<_, _-_, _^_}
-use mathlib.Core.Path.{_≡_}
-use lib.ListN.{length}
-use borrow.Author.Needs.{needs}
-use Rattle·testing·proofs.proofs.list.count_up.Statement.{statement}
-use Rattle·testing·proofs.proofs.list.count_up.Tie as tie
+use Rattle.std.proofs.Common.{◌≡◌, ◌-◌, ◌^◌, ◌<◌, length, rules}
+use Rattle.testing.proofs.list.count_up.Statement.{statement}
+use Rattle.testing.proofs.list.count_up.Tie as tie
 
 pub count-up-spec : {M : Type 1} → statement M
 count-up-spec =
@@ -12,11 +9,11 @@ count-up-spec =
     (tie.spec
     (λ values₀ i₀ i-end values i. (i-end < 2 ^ 64) × (length values ≡ length values₀))
     (λ values₀ i₀ i-end values i. i-end - i)
-    (λ c. search needs)
-    (λ c κs. search needs)
-    (λ c κs. search needs)
-    (λ c. search needs)
-    (λ c. search needs)
-    (λ c. search needs)
-    (λ c. search needs)
-    (λ c. search needs))
+    (λ c. search rules)
+    (λ c κs. search rules)
+    (λ c κs. search rules)
+    (λ c. search rules)
+    (λ c. search rules)
+    (λ c. search rules)
+    (λ c. search rules)
+    (λ c. search rules))

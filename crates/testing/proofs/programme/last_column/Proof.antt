@@ -1,8 +1,7 @@
 -- `testing::programme::last_column` is safe and ends. The loop counts its index up to the end of the range.
-use Prim.Native.Nat.{_-_}
-use borrow.Author.Needs.{needs}
-use Rattle·testing·proofs.proofs.programme.last_column.Statement.{statement}
-use Rattle·testing·proofs.proofs.programme.last_column.Tie as tie
+use Rattle.std.proofs.Common.{◌-◌, rules}
+use Rattle.testing.proofs.programme.last_column.Statement.{statement}
+use Rattle.testing.proofs.programme.last_column.Tie as tie
 
 pub last-column-spec : {M : Type 1} → statement M
 last-column-spec =
@@ -10,13 +9,13 @@ last-column-spec =
     (tie.spec
     (λ least count losses₀ k₀ losses k. Unit)
     (λ least count losses₀ k₀ losses k. 32 - k)
-    (λ c. search needs)
-    (λ c. search needs)
-    (λ c κs. search needs)
-    (λ c κs. search needs)
-    (λ c. search needs)
-    (λ c. search needs)
-    (λ c. search needs)
-    (λ c. search needs)
-    (λ c. search needs)
-    (λ c. search needs))
+    (λ c. search rules)
+    (λ c. search rules)
+    (λ c κs. search rules)
+    (λ c κs. search rules)
+    (λ c. search rules)
+    (λ c. search rules)
+    (λ c. search rules)
+    (λ c. search rules)
+    (λ c. search rules)
+    (λ c. search rules))

@@ -1,8 +1,7 @@
 -- `testing::programme::segmentation_at` is safe and ends. The loop counts its index up to the end of the range.
-use Prim.Native.Nat.{_-_}
-use borrow.Author.Needs.{needs}
-use Rattle·testing·proofs.proofs.programme.segmentation_at.Statement.{statement}
-use Rattle·testing·proofs.proofs.programme.segmentation_at.Tie as tie
+use Rattle.std.proofs.Common.{◌-◌, rules}
+use Rattle.testing.proofs.programme.segmentation_at.Statement.{statement}
+use Rattle.testing.proofs.programme.segmentation_at.Tie as tie
 
 pub segmentation-at-spec : {M : Type 1} → statement M
 segmentation-at-spec =
@@ -10,15 +9,15 @@ segmentation-at-spec =
     (tie.spec
     (λ samples sums list segments made₀ i₀ made i. Unit)
     (λ samples sums list segments made₀ i₀ made i. segments - i)
-    (λ c κs. search needs)
-    (λ c. search needs)
-    (λ c κs. search needs)
-    (λ c κs. search needs)
-    (λ c κs. search needs)
-    (λ c κs. search needs)
-    (λ c κs. search needs)
-    (λ c κs. search needs)
-    (λ c. search needs)
-    (λ c. search needs)
-    (λ c. search needs)
-    (λ c. search needs))
+    (λ c κs. search rules)
+    (λ c. search rules)
+    (λ c κs. search rules)
+    (λ c κs. search rules)
+    (λ c κs. search rules)
+    (λ c κs. search rules)
+    (λ c κs. search rules)
+    (λ c κs. search rules)
+    (λ c. search rules)
+    (λ c. search rules)
+    (λ c. search rules)
+    (λ c. search rules))

@@ -1,20 +1,14 @@
 -- `testing::sample::lower` is safe and ends: a number below 65,536, less 32,768, is a sample of 16 bits.
-use mathlib.Core.Path.{_≡_}
-use Prim.Native.Nat.{ℕ, _+_, _-_, _%_, _<_}
-use native.Mathlib.Omega.{arith}
-use lib.IntN.{pos, _-ℤ_}
-use mir.Syntax.{w16, w32}
-use mir.Val.{SFits, toZ}
-use mir.Facts.{toZ-ofZ, sfits-widen}
-use borrow.Author.Needs.{needs}
-use Rattle·segment.proofs.Integers.{P, N, PN-minus, tight}
-use Rattle·segment.proofs.Signed.{sfits-PN}
-use Rattle·testing·proofs.proofs.sample.lower.Statement.{statement}
-use Rattle·testing·proofs.proofs.sample.lower.Tie as tie
+use Rattle.std.proofs.Common.{◌≡◌, ℕ, ◌+◌, ◌-◌, ◌%◌, ◌<◌, pos, ◌-ℤ◌, arith, to_z-of_z, w16, w32, SFits, to_z, rules}
+use mir.Facts.{sfits_widen}
+use Rattle.segment.proofs.Integers.{P, N, PN-minus, tight}
+use Rattle.segment.proofs.Signed.{sfits-PN}
+use Rattle.testing.proofs.sample.lower.Statement.{statement}
+use Rattle.testing.proofs.sample.lower.Tie as tie
 
 module _ (n : ℕ) (small : n < 65536) where
-  raised-bits : toZ w32 n ≡ pos n
-  raised-bits = toZ-ofZ {w = w32} {z = pos n} (sfits-PN (pos n) (omega arith) (omega arith))
+  raised-bits : to_z w32 n ≡ pos n
+  raised-bits = to_z-of_z {w = w32} {z = pos n} (sfits-PN (pos n) (omega arith) (omega arith))
 
   lowered-fits : SFits w16 (pos n -ℤ pos 32768)
   lowered-fits =
@@ -23,17 +17,17 @@ module _ (n : ℕ) (small : n < 65536) where
       let t = tight z e in
       sfits-PN z (omega arith) (omega arith)
 
-sub-result : tie.Need-sub-result
+sub-result : tie.Need-overflow-sub-result
 sub-result c =
-    let n = c .args .raised % 65536 in
+    let n = c.args.raised % 65536 in
     let small : n < 65536 = omega arith in
-    rw (raised-bits n small) (sfits-widen tt (lowered-fits n small))
+    rw (raised-bits n small) (sfits_widen tt (lowered-fits n small))
 
-cast-result-2 : tie.Need-cast-result-2
+cast-result-2 : tie.Need-overflow-cast-result-2
 cast-result-2 c =
-    let n = c .args .raised % 65536 in
+    let n = c.args.raised % 65536 in
     let small : n < 65536 = omega arith in
-    rw (raised-bits n small, toZ-ofZ (sfits-widen {w′ = w32} tt (lowered-fits n small))) (lowered-fits n small)
+    rw (raised-bits n small, to_z-of_z (sfits_widen {w' = w32} tt (lowered-fits n small))) (lowered-fits n small)
 
-pub lower-spec : {M : Type 1} → statement M
-lower-spec = tie.close (tie.spec (λ c. search needs) sub-result cast-result-2 (λ c. search needs))
+pub lower_spec : {M : Type 1} → statement M
+lower_spec = tie.close (tie.spec (λ c. search rules) sub-result cast-result-2 (λ c. search rules))

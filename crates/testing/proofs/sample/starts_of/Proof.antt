@@ -1,8 +1,7 @@
 -- `testing::sample::starts_of` is safe and ends. The loop counts its index up to the end of the range.
-use Prim.Native.Nat.{_-_}
-use borrow.Author.Needs.{needs}
-use Rattle·testing·proofs.proofs.sample.starts_of.Statement.{statement}
-use Rattle·testing·proofs.proofs.sample.starts_of.Tie as tie
+use Rattle.std.proofs.Common.{◌-◌, rules}
+use Rattle.testing.proofs.sample.starts_of.Statement.{statement}
+use Rattle.testing.proofs.sample.starts_of.Tie as tie
 
 pub starts-of-spec : {M : Type 1} → statement M
 starts-of-spec =
@@ -10,13 +9,13 @@ starts-of-spec =
     (tie.spec
     (λ starts wide₀ i₀ wide i. Unit)
     (λ starts wide₀ i₀ wide i. 40 - i)
-    (λ c. search needs)
-    (λ c. search needs)
-    (λ c. search needs)
-    (λ c κs. search needs)
-    (λ c. search needs)
-    (λ c. search needs)
-    (λ c. search needs)
-    (λ c. search needs)
-    (λ c. search needs)
-    (λ c. search needs))
+    (λ c. search rules)
+    (λ c. search rules)
+    (λ c. search rules)
+    (λ c κs. search rules)
+    (λ c. search rules)
+    (λ c. search rules)
+    (λ c. search rules)
+    (λ c. search rules)
+    (λ c. search rules)
+    (λ c. search rules))

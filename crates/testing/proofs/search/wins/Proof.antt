@@ -1,8 +1,7 @@
 -- `testing::search::wins` is safe and ends. The loop counts its index up to the end of the range.
-use Prim.Native.Nat.{_-_}
-use borrow.Author.Needs.{needs}
-use Rattle·testing·proofs.proofs.search.wins.Statement.{statement}
-use Rattle·testing·proofs.proofs.search.wins.Tie as tie
+use Rattle.std.proofs.Common.{◌-◌, rules}
+use Rattle.testing.proofs.search.wins.Statement.{statement}
+use Rattle.testing.proofs.search.wins.Tie as tie
 
 pub wins-spec : {M : Type 1} → statement M
 wins-spec =
@@ -10,10 +9,10 @@ wins-spec =
     (tie.spec
     (λ losses weights n i h₀ h. Unit)
     (λ losses weights n i h₀ h. n - h)
-    (λ c. search needs)
-    (λ c κs. search needs)
-    (λ c. search needs)
-    (λ c. search needs)
-    (λ c. search needs)
-    (λ c. search needs)
-    (λ c. search needs))
+    (λ c. search rules)
+    (λ c κs. search rules)
+    (λ c. search rules)
+    (λ c. search rules)
+    (λ c. search rules)
+    (λ c. search rules)
+    (λ c. search rules))

@@ -1,8 +1,7 @@
 -- `testing::search::wins_against` is safe and ends. The loop counts its index up to the end of the range.
-use Prim.Native.Nat.{_-_}
-use borrow.Author.Needs.{needs}
-use Rattle·testing·proofs.proofs.search.wins_against.Statement.{statement}
-use Rattle·testing·proofs.proofs.search.wins_against.Tie as tie
+use Rattle.std.proofs.Common.{◌-◌, rules}
+use Rattle.testing.proofs.search.wins_against.Statement.{statement}
+use Rattle.testing.proofs.search.wins_against.Tie as tie
 
 pub wins-against-spec : {M : Type 1} → statement M
 wins-against-spec =
@@ -10,11 +9,11 @@ wins-against-spec =
     (tie.spec
     (λ losses weights n h i j₀ j. Unit)
     (λ losses weights n h i j₀ j. n - j)
-    (λ c. search needs)
-    (λ c κs. search needs)
-    (λ c. search needs)
-    (λ c. search needs)
-    (λ c. search needs)
-    (λ c. search needs)
-    (λ c κs. search needs)
-    (λ c. search needs))
+    (λ c. search rules)
+    (λ c κs. search rules)
+    (λ c. search rules)
+    (λ c. search rules)
+    (λ c. search rules)
+    (λ c. search rules)
+    (λ c κs. search rules)
+    (λ c. search rules))

@@ -1,8 +1,7 @@
 -- `testing::segmentation::loss_at` is safe and ends. The loop counts its index up to the end of the range.
-use Prim.Native.Nat.{_-_}
-use borrow.Author.Needs.{needs}
-use Rattle·testing·proofs.proofs.segmentation.loss_at.Statement.{statement}
-use Rattle·testing·proofs.proofs.segmentation.loss_at.Tie as tie
+use Rattle.std.proofs.Common.{◌-◌, rules}
+use Rattle.testing.proofs.segmentation.loss_at.Statement.{statement}
+use Rattle.testing.proofs.segmentation.loss_at.Tie as tie
 
 pub loss-at-spec : {M : Type 1} → statement M
 loss-at-spec =
@@ -10,12 +9,12 @@ loss-at-spec =
     (tie.spec
     (λ samples from to level loss₀ i₀ loss i. Unit)
     (λ samples from to level loss₀ i₀ loss i. to - i)
-    (λ c. search needs)
-    (λ c. search needs)
-    (λ c κs. search needs)
-    (λ c κs. search needs)
-    (λ c κs. search needs)
-    (λ c. search needs)
-    (λ c. search needs)
-    (λ c. search needs)
-    (λ c. search needs))
+    (λ c. search rules)
+    (λ c. search rules)
+    (λ c κs. search rules)
+    (λ c κs. search rules)
+    (λ c κs. search rules)
+    (λ c. search rules)
+    (λ c. search rules)
+    (λ c. search rules)
+    (λ c. search rules))

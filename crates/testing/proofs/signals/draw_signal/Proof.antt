@@ -1,10 +1,7 @@
 -- `testing::signals::draw_signal` is safe and ends. The loop counts its index up to the end of the range.
-use Prim.Native.Nat.{_-_}
-use mathlib.Core.Path.{_≡_}
-use lib.ListN.{length}
-use borrow.Author.Needs.{needs}
-use Rattle·testing·proofs.proofs.signals.draw_signal.Statement.{statement}
-use Rattle·testing·proofs.proofs.signals.draw_signal.Tie as tie
+use Rattle.std.proofs.Common.{◌≡◌, ◌-◌, length, rules}
+use Rattle.testing.proofs.signals.draw_signal.Statement.{statement}
+use Rattle.testing.proofs.signals.draw_signal.Tie as tie
 
 pub draw-signal-spec : {M : Type 1} → statement M
 draw-signal-spec =
@@ -12,12 +9,12 @@ draw-signal-spec =
     (tie.spec
     (λ kind seed raised₀ x₀ before₀ i₀ raised x before i. length raised ≡ length raised₀)
     (λ kind seed raised₀ x₀ before₀ i₀ raised x before i. 512 - i)
-    (λ c. search needs)
-    (λ c κs. search needs)
-    (λ c κs. search needs)
-    (λ c κs. search needs)
-    (λ c. search needs)
-    (λ c. search needs)
-    (λ c. search needs)
-    (λ c. search needs)
-    (λ c. search needs))
+    (λ c. search rules)
+    (λ c κs. search rules)
+    (λ c κs. search rules)
+    (λ c κs. search rules)
+    (λ c. search rules)
+    (λ c. search rules)
+    (λ c. search rules)
+    (λ c. search rules)
+    (λ c. search rules))

@@ -1,8 +1,7 @@
 -- `testing::text::print_each` is safe and ends. The loop counts its index up to the end of the range.
-use Prim.Native.Nat.{_-_}
-use borrow.Author.Needs.{needs}
-use Rattle·testing·proofs.proofs.text.print_each.Statement.{statement}
-use Rattle·testing·proofs.proofs.text.print_each.Tie as tie
+use Rattle.std.proofs.Common.{◌-◌, rules}
+use Rattle.testing.proofs.text.print_each.Statement.{statement}
+use Rattle.testing.proofs.text.print_each.Tie as tie
 
 pub print-each-spec : {M : Type 1} → statement M
 print-each-spec =
@@ -10,9 +9,9 @@ print-each-spec =
     (tie.spec
     (λ template values n i₀ i. Unit)
     (λ template values n i₀ i. n - i)
-    (λ c. search needs)
-    (λ c κs. search needs)
-    (λ c. search needs)
-    (λ c. search needs)
-    (λ c. search needs)
-    (λ c. search needs))
+    (λ c. search rules)
+    (λ c κs. search rules)
+    (λ c. search rules)
+    (λ c. search rules)
+    (λ c. search rules)
+    (λ c. search rules))
