@@ -2,7 +2,7 @@
  * Foldwig: segmentation of a signal at a penalty on the number of segments, and the path of the sizes that can be the cheapest.
  *
  * This header is for C99 and for C++, on x86-64 with the usual calling convention of Linux. docs/RULES.md states all that the
- * calls do; R1 to R59, R77 to R92 and R94 to R107 are its rules for them.
+ * calls do; R1 to R59, R94 to R96 and R98 to R106 are its rules for them.
  *
  * Numbers in memory. Lists stand in byte strings, low byte first, without any demand on alignment:
  *
@@ -33,7 +33,7 @@
  * looked at nor altered, except that the column of a new sample is filled. Of a table that is lent longer, the bytes past
  * FOLDWIG_TABLE_LEN are not touched. Only bytes are lent: the caller keeps the table and the samples, and may copy them, store them
  * or go on with them in another process. A copy of both goes on as the original does.
- * A table is as the calls left it if each of the samples was given to foldwig_extend in turn and accepted, from no samples on, under whatever
+ * A table is as the calls left it if each of the samples was given to foldwig_extend in turn, from no samples on, under whatever
  * limits, and nothing else has written to their columns since. With such a table the path and the segments are those that
  * foldwig_signal_path and foldwig_split give for the samples with min_segment_len 1 and no weights. With any other table that is
  * not refused the calls work on the values as they stand.
@@ -113,8 +113,7 @@ enum foldwig_refusal {
                                          weight is lacking. */
     FOLDWIG_SIZE_NOT_LARGER = 6,      /* A new size is not larger than the last entry's. */
     FOLDWIG_LOSS_LARGER = 7,          /* A new loss is larger than the last entry's. */
-    FOLDWIG_BAD_PATH = 8,             /* The path lent is out of range or out of order, shorter than its number of entries, or of more
-                                         than 4,096 entries. */
+    FOLDWIG_BAD_PATH = 8,             /* The path lent is out of range or out of order, or shorter than its number of entries. */
     FOLDWIG_NO_ROOM = 9,              /* A buffer is too short. */
     FOLDWIG_EMPTY_PATH = 10,          /* There is no entry to select. */
     FOLDWIG_BAD_LENGTH = 11,          /* A byte string ends inside an item: its length is not divisible by the width. */
@@ -236,8 +235,8 @@ struct foldwig_path_result foldwig_build_quadratic(const uint8_t *sizes, size_t 
 
 /*
  * Selects an entry of the path of so many entries at the penalty p / q (R20 to R23): from the first entry on it moves to the next
- * one as long as that costs less, where a model costs q * loss + p * weight. On a path as the library left it (R18) this is
- * the cheapest of all models that led to it, and of several the one with the smallest size. It writes nothing.
+ * one as long as that costs less, where a model costs q * loss + p * weight. On a path that the library made this is the cheapest
+ * of all its models, and the one with the smallest size of several. It writes nothing.
  * Refusals, in order: 11, 8, 10, 4.
  * Stack: 600 bytes.
  */

@@ -1,6 +1,5 @@
 // The calls on a path over byte strings. An append, a selection and a listing of breakpoints read and write the bytes where they lie. A
-// build reads the models to lists of its own. What is claimed of a call asks that the strings lent hold bytes, which its clause `held`
-// says.
+// build reads the models to lists of its own.
 
 ghost use Rattle.std.specs.Prelude.{◌≡◌, ◌+◌, length};
 ghost use Rattle.coding.specs.Coding.{outcome};
@@ -72,9 +71,8 @@ pub fn append(
     loss: u64,
     weight: u64,
 ) -> PathResult
-    ensures outcome { outcome result (lists sizes.new losses.new weights.new)
+    ensures { outcome result (lists sizes.new losses.new weights.new)
         ≡ appendBytesOf (lists sizes.old losses.old weights.old) entries (model size loss weight) }
-    ensures held { modelsCoding.Held (lists sizes.old losses.old weights.old) }
 {
     if sizes.len() % 2 + losses.len() % 8 + weights.len() % 2 != 0 {
         return path::refuse(11);
@@ -139,12 +137,10 @@ pub fn build_by(
     path_losses: &mut [u8],
     path_weights: &mut [u8],
 ) -> PathResult
-    ensures outcome { outcome result (lists path_sizes.new path_losses.new path_weights.new)
+    ensures { outcome result (lists path_sizes.new path_losses.new path_weights.new)
         ≡ buildBytesBy older
         (lists sizes.now losses.now weights.now)
         (lists path_sizes.old path_losses.old path_weights.old) }
-    ensures held { modelsCoding.Held (lists sizes.now losses.now weights.now)
-        × modelsCoding.Held (lists path_sizes.old path_losses.old path_weights.old) }
 {
     let spare = sizes.len() % 2 + losses.len() % 8 + weights.len() % 2;
     if spare + path_sizes.len() % 2 + path_losses.len() % 8 + path_weights.len() % 2 != 0 {
@@ -192,8 +188,7 @@ pub fn select(
     p: u64,
     q: u64,
 ) -> SelectResult
-    ensures outcome { result ≡ selectBytesOf (lists sizes.now losses.now weights.now) entries p q }
-    ensures held { modelsCoding.Held (lists sizes.now losses.now weights.now) }
+    ensures { result ≡ selectBytesOf (lists sizes.now losses.now weights.now) entries p q }
 {
     if sizes.len() % 2 + losses.len() % 8 + weights.len() % 2 != 0 {
         return refuse_selection(11);
@@ -266,11 +261,9 @@ pub fn breakpoints(
     numerators: &mut [u8],
     denominators: &mut [u8],
 ) -> BreakpointsResult
-    ensures outcome { outcome result (fractions numerators.new denominators.new)
+    ensures { outcome result (fractions numerators.new denominators.new)
         ≡ breakpointsBytesOf (lists sizes.now losses.now weights.now) entries
         (fractions numerators.old denominators.old) }
-    ensures held { modelsCoding.Held (lists sizes.now losses.now weights.now)
-        × fractionsCoding.Held (fractions numerators.old denominators.old) }
 {
     let spare = sizes.len() % 2 + losses.len() % 8 + weights.len() % 2;
     if spare + numerators.len() % 8 + denominators.len() % 2 != 0 {

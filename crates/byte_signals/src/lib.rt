@@ -1,6 +1,5 @@
 // The calls on signals over byte strings. Samples and levels are two bytes each with a sign, starts, sizes and weights two without one,
-// losses eight, all with the low byte first. What is claimed of a call asks that the strings lent hold bytes, which its clause `held`
-// says.
+// losses eight, all with the low byte first.
 
 ghost use Rattle.std.specs.Prelude.{◌≡◌, ◌/◌, min, length, drop};
 ghost use Rattle.coding.specs.Coding.{outcome};
@@ -10,7 +9,7 @@ ghost use Rattle.weights.specs.Weights.{allInRange};
 ghost use Rattle.weights.specs.Inner.{folded};
 ghost use Rattle.least.specs.Segmentation.{maxSegments};
 ghost use Rattle.signal.specs.SignalPath.{pathBuffers};
-ghost use Rattle.byte_signals.specs.Signals.{signalStrings, signalCoding, pathCoding, signalPathBytesOf, splitStrings, splitCoding, splitBytesOf};
+ghost use Rattle.byte_signals.specs.Signals.{signalStrings, signalPathBytesOf, splitStrings, splitBytesOf};
 ghost use Rattle.byte_signals.specs.Inner.{readWeights, PathFits, SplitFits};
 
 use coding::{encode_models, encode_segments, read_models, read_segments};
@@ -129,16 +128,12 @@ pub fn signal_path(
     path_weights: &mut [u8],
     scratch: &mut [u8],
 ) -> SignalPathResult
-    ensures outcome { outcome result
+    ensures { outcome result
         (pathBuffers
         (lists path_sizes.new path_losses.new path_weights.new)
         scratch.new)
         ≡ signalPathBytesOf (signalStrings samples.now weights.now) max_segments min_segment_len
         (pathBuffers
-        (lists path_sizes.old path_losses.old path_weights.old)
-        scratch.old) }
-    ensures held { signalCoding.Held (signalStrings samples.now weights.now)
-        × pathCoding.Held (pathBuffers
         (lists path_sizes.old path_losses.old path_weights.old)
         scratch.old) }
 {
@@ -273,18 +268,13 @@ pub fn split(
     path_weights: &mut [u8],
     scratch: &mut [u8],
 ) -> SplitResult
-    ensures outcome { outcome result
+    ensures { outcome result
         (splitStrings
         starts.new levels.new
         (lists path_sizes.new path_losses.new path_weights.new)
         scratch.new)
         ≡ splitBytesOf (signalStrings samples.now weights.now) max_segments min_segment_len p q
         (splitStrings
-        starts.old levels.old
-        (lists path_sizes.old path_losses.old path_weights.old)
-        scratch.old) }
-    ensures held { signalCoding.Held (signalStrings samples.now weights.now)
-        × splitCoding.Held (splitStrings
         starts.old levels.old
         (lists path_sizes.old path_losses.old path_weights.old)
         scratch.old) }

@@ -1,13 +1,11 @@
 // The calls on streaming signals over byte strings. Samples and levels are two bytes each with a sign, starts, sizes and weights
-// two without one, losses eight, all with the low byte first. The table is handed on as it is. What is claimed of a call
-// asks that the strings lent hold bytes, and that a new sample is of 16 bits, which its clause `held` says.
+// two without one, losses eight, all with the low byte first. The table is handed on as it is.
 
 ghost use Rattle.std.specs.Prelude.{◌≡◌, length};
-ghost use Rattle.coding.specs.Coding.{outcome, signeds};
+ghost use Rattle.coding.specs.Coding.{outcome};
 ghost use Rattle.path.specs.Model.{lists};
-ghost use Rattle.segment.specs.Segment.{Sample16};
 ghost use Rattle.stream.specs.Extend.{streamBuffers};
-ghost use Rattle.byte_streams.specs.Streams.{streamCoding, extendBytesOf, segmentStrings, segmentsCoding, splitFromBytesOf};
+ghost use Rattle.byte_streams.specs.Streams.{extendBytesOf, segmentStrings, splitFromBytesOf};
 ghost use Rattle.byte_streams.specs.Inner.{ExtendFits, SplitFromFits};
 
 use byte_signals::READ_SAMPLES;
@@ -83,16 +81,12 @@ pub fn extend(
     path_losses: &mut [u8],
     path_weights: &mut [u8],
 ) -> ExtendResult
-    ensures outcome { outcome result
+    ensures { outcome result
         (streamBuffers
         table.new
         (lists path_sizes.new path_losses.new path_weights.new))
         ≡ extendBytesOf samples.now sample max_segments
         (streamBuffers
-        table.old
-        (lists path_sizes.old path_losses.old path_weights.old)) }
-    ensures held { signeds.Held samples.now × Sample16 sample
-        × streamCoding.Held (streamBuffers
         table.old
         (lists path_sizes.old path_losses.old path_weights.old)) }
 {
@@ -174,11 +168,9 @@ pub fn split_from(
     starts: &mut [u8],
     levels: &mut [u8],
 ) -> SplitFromResult
-    ensures outcome { outcome result (segmentStrings starts.new levels.new)
+    ensures { outcome result (segmentStrings starts.new levels.new)
         ≡ splitFromBytesOf samples.now max_segments p q table.now
         (segmentStrings starts.old levels.old) }
-    ensures held { signeds.Held samples.now
-        × segmentsCoding.Held (segmentStrings starts.old levels.old) }
 {
     if samples.len() % 2 + starts.len() % 2 + levels.len() % 2 != 0 {
         return SplitFromResult {

@@ -37,35 +37,30 @@ module _ {A : Type 0} (C D : Coding) (a : Answers A) (call : C.Numbers → D.Num
       ∙ (λ i. encodedOver D a (D.bytes xs) (call (C.numbers s) (F.fit-back xs fit i)))
       ∙ (λ i. outcome onNumbers.answer (kept-encoded (eqb number 0) (λ h. keeps (eqb-false number 0 h)) i))
 
--- What a call over byte strings answers, and what it leaves where it is accepted.
-module _ {A : Type 0} (C D : Coding) (a : Answers A) (call : C.Numbers → D.Numbers → Outcome A D.Numbers) (s : C.Strings) (b : D.Strings) where
-  abbrev made : Outcome A D.Numbers
-  made = call (C.numbers s) (D.numbers b)
+-- A call over byte strings that is accepted.
+module _ {A : Type 0} (C D : Coding) (a : Answers A) (call : C.Numbers → D.Numbers → Outcome A D.Numbers) (s : C.Strings) (b : D.Strings)
+    (h : a.number (onBytes C D a call s b).answer ≡ 0)
+  where
+    abbrev made : Outcome A D.Numbers
+    made = call (C.numbers s) (D.numbers b)
 
-  -- A call that answers another number than 11 finds whole items.
-  none-spare : (c : ℕ) → (11 ≡ c → ⊥) → a.number (onBytes C D a call s b).answer ≡ c → C.spare s + D.spare b ≡ 0
-  none-spare c other h =
-      ⊎_elim
-      (λ (e : C.spare s + D.spare b ≡ 0). e)
-      (λ (g : 0 < C.spare s + D.spare b).
-      absurd
-      (other
-      (sym (a.numbered 11) ∙ ap (λ (o : Outcome A D.Strings). a.number o.answer) (eleven C D a call s b (λ e. omega arith)) ∙ h)))
-      (eq-zero-or-pos (C.spare s + D.spare b))
+    -- A call that is not refused finds whole items.
+    none-spare : C.spare s + D.spare b ≡ 0
+    none-spare =
+        ⊎_elim
+        (λ (e : C.spare s + D.spare b ≡ 0). e)
+        (λ (g : 0 < C.spare s + D.spare b).
+        let z : ◌≡◌ {A = ℕ} 11 0 =
+        sym (a.numbered 11) ∙ ap (λ (o : Outcome A D.Strings). a.number o.answer) (eleven C D a call s b (λ e. omega arith)) ∙ h in
+        absurd (omega arith))
+        (eq-zero-or-pos (C.spare s + D.spare b))
 
-  -- The call on numbers answers it too.
-  pub answered-too : (c : ℕ) → (11 ≡ c → ⊥) → a.number (onBytes C D a call s b).answer ≡ c → a.number made.answer ≡ c
-  answered-too c other h =
-      ap (λ (o : Outcome A D.Strings). a.number o.answer) (whole-strings C D a call s b (none-spare c other h)) ∙ h
-
-  -- An accepted call is that on numbers, which is accepted too.
-  module _ (h : a.number (onBytes C D a call s b).answer ≡ 0) where
+    -- An accepted call is that on numbers, which is accepted too.
     pub accepted-too : a.number made.answer ≡ 0
-    accepted-too = answered-too 0 (λ z. omega arith) h
+    accepted-too = ap (λ (o : Outcome A D.Strings). a.number o.answer) (whole-strings C D a call s b none-spare) ∙ h
 
     pub accepted-encoded : encoded D made ≡ onBytes C D a call s b
-    accepted-encoded =
-        (rw (eq-eqb (a.number made.answer) 0 accepted-too) refl) ∙ whole-strings C D a call s b (none-spare 0 (λ z. omega arith) h)
+    accepted-encoded = (rw (eq-eqb (a.number made.answer) 0 accepted-too) refl) ∙ whole-strings C D a call s b none-spare
 
     -- Where what that leaves fits, its numbers are those of the strings.
     pub accepted-decoded : (F : Fitting D) → F.Fit made.buffers → decoded D (onBytes C D a call s b) ≡ made

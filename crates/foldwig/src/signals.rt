@@ -1,10 +1,10 @@
-// The calls in C on signals: each is the call over byte strings of the crate `byte_signals`, with its clauses.
+// The calls in C on signals: each is the call over byte strings of the crate `byte_signals`.
 
 ghost use Rattle.std.specs.Prelude.{◌≡◌};
 ghost use Rattle.coding.specs.Coding.{outcome};
 ghost use Rattle.path.specs.Model.{lists};
 ghost use Rattle.signal.specs.SignalPath.{pathBuffers};
-ghost use Rattle.byte_signals.specs.Signals.{signalStrings, signalCoding, pathCoding, signalPathBytesOf, splitStrings, splitCoding, splitBytesOf};
+ghost use Rattle.byte_signals.specs.Signals.{signalStrings, signalPathBytesOf, splitStrings, splitBytesOf};
 
 use signal::{SignalPathResult, SplitResult};
 
@@ -21,16 +21,12 @@ pub extern "C" fn foldwig_signal_path(
     path_weights: &mut [u8],
     scratch: &mut [u8],
 ) -> SignalPathResult
-    ensures outcome { outcome result
+    ensures { outcome result
         (pathBuffers
         (lists path_sizes.new path_losses.new path_weights.new)
         scratch.new)
         ≡ signalPathBytesOf (signalStrings samples.now weights.now) max_segments min_segment_len
         (pathBuffers
-        (lists path_sizes.old path_losses.old path_weights.old)
-        scratch.old) }
-    ensures held { signalCoding.Held (signalStrings samples.now weights.now)
-        × pathCoding.Held (pathBuffers
         (lists path_sizes.old path_losses.old path_weights.old)
         scratch.old) }
 {
@@ -63,18 +59,13 @@ pub extern "C" fn foldwig_split(
     path_weights: &mut [u8],
     scratch: &mut [u8],
 ) -> SplitResult
-    ensures outcome { outcome result
+    ensures { outcome result
         (splitStrings
         starts.new levels.new
         (lists path_sizes.new path_losses.new path_weights.new)
         scratch.new)
         ≡ splitBytesOf (signalStrings samples.now weights.now) max_segments min_segment_len p q
         (splitStrings
-        starts.old levels.old
-        (lists path_sizes.old path_losses.old path_weights.old)
-        scratch.old) }
-    ensures held { signalCoding.Held (signalStrings samples.now weights.now)
-        × splitCoding.Held (splitStrings
         starts.old levels.old
         (lists path_sizes.old path_losses.old path_weights.old)
         scratch.old) }

@@ -21,7 +21,7 @@ fn try_report(input: &[u8], output: &mut [u8]) {
     let kept = count_sevens(output);
     print(
         b"buffer of #: refusal #, length #, bytes kept #\n",
-        &[output.len() as u64, made.refusal, made.written as u64, kept],
+        &[output.len() as u64, made.refusal, made.length as u64, kept],
     );
 }
 

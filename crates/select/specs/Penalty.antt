@@ -1,5 +1,5 @@
 -- A penalty, the trade's price, is a fraction p / q. Here is its range, and what a model costs at it. Equal fractions are equal
--- penalties: that every call does the same at them is claimed in the crate `demands`.
+-- penalties: that they select the same is claimed in the crate `hull`.
 use Rattle.std.specs.Prelude.{Bool, ◌&&◌, ℕ, ◌+◌, ◌*◌, leb}
 use Rattle.path.specs.Model.{Model}
 

@@ -8,7 +8,7 @@ use crate::segmentation;
 use crate::segmentation::{Segmentation, loss_at, with_segment};
 
 // The number of cells of a table.
-const CELLS: usize = 16929;
+pub const CELLS: usize = 16929;
 
 // What is known of a signal: the number of its samples, the sums of its first samples, the least loss of each size, the start of
 // the last segment, less one, in each cell, and the number of faults of the programme itself.
@@ -176,7 +176,7 @@ pub fn solve(samples: &[u64], count: u64, limit: u64) -> Programme {
 }
 
 // Writes the starts, less one, of the segments of the best segmentation into so many, from the last segment back.
-fn put_starts(starts: &[u64], count: u64, segments: u64, list: &mut [u64]) {
+pub fn put_starts(starts: &[u64], count: u64, segments: u64, list: &mut [u64]) {
     let mut end = count;
     for i in 0..segments {
         let k = minus(segments, i);

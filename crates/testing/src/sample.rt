@@ -14,7 +14,7 @@ pub fn raise(sample: i16) -> u64 {
 }
 
 // The sample that a number below 65,536 is when it is raised.
-fn lower(raised: u64) -> i16 {
+pub fn lower(raised: u64) -> i16 {
     ((raised % 65536) as i32 - 32768) as i16
 }
 

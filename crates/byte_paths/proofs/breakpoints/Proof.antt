@@ -4,12 +4,10 @@ use native.Mathlib.Omega.{arith}
 use Prim.Native.Nat.{ℕ, ◌+◌}
 use Rattle.coding.specs.Coding.{outcome}
 use Rattle.coding.specs.Models.{modelsCoding}
-use Rattle.coding.proofs.Strings.{bytes-held}
-use Rattle.coding.proofs.Models.{models-held}
 use Rattle.coding.proofs.Calls.{eleven, whole-strings}
-use Rattle.path.specs.Model.{Lists, lists}
+use Rattle.path.specs.Model.{lists}
 use Rattle.select.specs.declared.BreakpointsResult.{BreakpointsResult}
-use Rattle.byte_paths.specs.Paths.{Fractions, fractions, fractionsCoding, breakpointsAnswers, breakpointsCall}
+use Rattle.byte_paths.specs.Paths.{fractions, fractionsCoding, breakpointsAnswers, breakpointsCall}
 use borrow.Author.Rules.{rules}
 use Rattle.byte_paths.proofs.breakpoints.Statement.{statement}
 use Rattle.byte_paths.proofs.breakpoints.Tie as tie
@@ -18,28 +16,13 @@ use Rattle.byte_paths.proofs.breakpoints.Tie as tie
 none_over : (a b c d e : ℕ) → a + b + c + d + e ≡ 0 → a + (b + c) + (d + e) ≡ 0
 none_over a b c d e h = omega arith
 
-abbrev strings : tie.Start → Lists
-strings s = lists s.args.sizes.now s.args.losses.now s.args.weights.now
-
-abbrev lent : tie.Start → Fractions
-lent s = fractions s.args.numerators.now s.args.denominators.now
-
--- What was lent holds bytes.
-held : (c : tie.After-slice-known2) → modelsCoding.Held (strings c.before.before.before.before.before) × fractionsCoding.Held (lent c.before.before.before.before.before)
-held c =
-    let k = c.before.before in
-    let s = k.before.before.before in (
-      models-held (strings s) k.before.before.shared-slice-known.given k.before.shared-slice-known2.given k.shared-slice-known3.given,
-      (bytes-held (lent s).numerators c.before.slice-known.given, bytes-held (lent s).denominators c.slice-known2.given),
-    )
-
 returns : tie.Need-returns
 returns c =
-    let s = c.before.before.before.before.before.before.before in (
-      ap (λ (r : BreakpointsResult). outcome r (lent s)) c.refuse-listing.ensures
-          ∙ eleven modelsCoding fractionsCoding breakpointsAnswers (breakpointsCall s.args.entries) (strings s) (lent s) (λ e. c.before.if1.true (omega arith)),
-      held c.before.before,
-    )
+    let a = c.before.before.before.before.before.before.before.args in
+    let x = lists a.sizes.now a.losses.now a.weights.now in
+    let lent = fractions a.numerators.now a.denominators.now in
+    ap (λ (r : BreakpointsResult). outcome r lent) c.refuse-listing.ensures
+    ∙ eleven modelsCoding fractionsCoding breakpointsAnswers (breakpointsCall a.entries) x lent (λ e. c.before.if1.true (omega arith))
 
 breakpoints-whole-requires : tie.Need-breakpoints-whole-requires
 breakpoints-whole-requires c κs = none_over _ _ _ _ _ c.before.before.if1.false
@@ -48,11 +31,11 @@ returns-2 : tie.Need-returns-2
 returns-2 c =
     let w = c.before.before.before.before in
     let e = w.before.before.before in
-    let s = e.before.before.before.before.before.before in (
-      w.breakpoints-whole.ensures
-          ∙ whole-strings modelsCoding fractionsCoding breakpointsAnswers (breakpointsCall s.args.entries) (strings s) (lent s) (none_over _ _ _ _ _ e.if1.false),
-      held e.before,
-    )
+    let a = e.before.before.before.before.before.before.args in
+    let x = lists a.sizes.now a.losses.now a.weights.now in
+    let lent = fractions a.numerators.now a.denominators.now in
+    w.breakpoints-whole.ensures
+    ∙ whole-strings modelsCoding fractionsCoding breakpointsAnswers (breakpointsCall a.entries) x lent (none_over _ _ _ _ _ e.if1.false)
 
 pub breakpoints-spec : {M : Type 1} → statement M
 breakpoints-spec =

@@ -4,6 +4,7 @@ use mathlib.Core.List.{[], ◌∷◌}
 use Prim.Native.Nat.{◌-◌, ◌/◌}
 use native.Mathlib.Omega.{arith}
 use lib.ListN.{length}
+use Rattle.layout.specs.Items.{items_of}
 use Rattle.layout.proofs.ItemLists.{length-items}
 use Rattle.coding.specs.Coding.{outcome}
 use Rattle.coding.specs.Models.{modelsCoding}

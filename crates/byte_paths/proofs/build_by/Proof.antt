@@ -5,9 +5,9 @@ use native.Mathlib.Omega.{arith}
 use Rattle.coding.specs.Coding.{outcome}
 use Rattle.coding.specs.Models.{modelsCoding}
 use Rattle.coding.proofs.Strings.{front_length}
-use Rattle.coding.proofs.Models.{models-held, fronts-fit}
+use Rattle.coding.proofs.Models.{fronts-fit}
 use Rattle.coding.proofs.Calls.{eleven}
-use Rattle.path.specs.Model.{Lists, lists}
+use Rattle.path.specs.Model.{lists}
 use Rattle.path.specs.declared.PathResult.{PathResult}
 use Rattle.byte_paths.specs.Paths.{pathAnswers, buildCall}
 use Rattle.byte_paths.specs.Inner.{modelsRead}
@@ -19,28 +19,13 @@ use Rattle.byte_paths.proofs.build_by.Tie as tie
 none_over : (a b c d e f : ℕ) → a + b + c + d + e + f ≡ 0 → a + (b + c) + (d + (e + f)) ≡ 0
 none_over a b c d e f h = omega arith
 
-abbrev given : tie.Start → Lists
-given s = lists s.args.sizes.now s.args.losses.now s.args.weights.now
-
-abbrev lent : tie.Start → Lists
-lent s = lists s.args.path-sizes.now s.args.path-losses.now s.args.path-weights.now
-
--- What was lent holds bytes.
-held : (c : tie.After-slice-known3) → modelsCoding.Held (given c.before.before.before.before.before.before) × modelsCoding.Held (lent c.before.before.before.before.before.before)
-held c =
-    let k = c.before.before.before in
-    let s = k.before.before.before in (
-      models-held (given s) k.before.before.shared-slice-known.given k.before.shared-slice-known2.given k.shared-slice-known3.given,
-      models-held (lent s) c.before.before.slice-known.given c.before.slice-known2.given c.slice-known3.given,
-    )
-
 returns : tie.Need-returns
 returns c =
-    let s = c.before.before.before.before.before.before.before.before in (
-      ap (λ (r : PathResult). outcome r (lent s)) c.refuse.ensures
-          ∙ eleven modelsCoding modelsCoding pathAnswers (buildCall s.args.older) (given s) (lent s) (λ e. c.before.if1.true (omega arith)),
-      held c.before.before,
-    )
+    let a = c.before.before.before.before.before.before.before.before.args in
+    let x = lists a.sizes.now a.losses.now a.weights.now in
+    let lent = lists a.path-sizes.now a.path-losses.now a.path-weights.now in
+    ap (λ (r : PathResult). outcome r lent) c.refuse.ensures
+    ∙ eleven modelsCoding modelsCoding pathAnswers (buildCall a.older) x lent (λ e. c.before.if1.true (omega arith))
 
 array-borrow-prefix-size-items : tie.Need-array-borrow-prefix-size-items
 array-borrow-prefix-size-items c = omega (arith, c.before.before.before.before.before.smaller.ensures)
@@ -63,18 +48,14 @@ slice-aggregate-build-items-3 c = sym (front_length {A = ℕ} 0 modelsRead _ (om
 build-items-requires : tie.Need-build-items-requires
 build-items-requires c κs =
     let s = c.before.before.before.before.before.before.before.before.before.before.before.before.before.before.before.before in
+    let a = s.args in
     let x = c.before.before.before.before.before.before.before.before.smaller in
     let y = c.before.before.before.before.before.before.before.smaller2 in
     let z = c.before.before.before.before.before.before.smaller3 in
     record {
       whole = none_over _ _ _ _ _ _ c.before.before.before.before.before.before.before.before.before.if1.false;
-      given = fronts-fit (given s) modelsRead _ x.ensures y.ensures z.ensures refl (omega arith);
+      given = fronts-fit (lists a.sizes.now a.losses.now a.weights.now) modelsRead _ x.ensures y.ensures z.ensures refl (omega arith);
     }
-
-returns-2 : tie.Need-returns-2
-returns-2 c =
-    let w = c.before.before.before.before.before.before.before.before.before in
-    (w.build-items.ensures, held w.before.before.before.before.before.before.before.before.before.before.before)
 
 pub build-by-spec : {M : Type 1} → statement M
 build-by-spec =
@@ -100,4 +81,4 @@ build-by-spec =
     (λ c. search rules)
     (λ c. search rules)
     (λ c. search rules)
-    returns-2)
+    (λ c. search rules))

@@ -4,7 +4,6 @@ use Prim.Native.Nat.{◌+◌, ◌-◌}
 use native.Mathlib.Omega.{arith}
 use Rattle.coding.specs.Coding.{Outcome, none}
 use Rattle.coding.specs.Models.{modelsCoding}
-use Rattle.coding.proofs.Models.{models-held}
 use Rattle.coding.proofs.Calls.{eleven, whole-strings}
 use Rattle.path.specs.Model.{Model, Lists, lists}
 use Rattle.path.specs.Refusal.{refusalOf}
@@ -26,10 +25,6 @@ strings s = lists s.args.sizes.now s.args.losses.now s.args.weights.now
 
 abbrev given : tie.Start → Lists
 given s = modelsCoding.numbers (strings s)
-
--- What was lent holds bytes.
-held : (c : tie.After-shared-slice-known3) → modelsCoding.Held (strings c.before.before.before)
-held c = models-held (strings c.before.before.before) c.before.before.shared-slice-known.given c.before.shared-slice-known2.given c.shared-slice-known3.given
 
 -- With no byte left over it is the selection from the numbers.
 on-numbers : (c : tie.After-select-refusal) → selectOf (given (at-start c)) (at-start c).args.entries (at-start c).args.p (at-start c).args.q ≡ selectBytesOf (strings (at-start c)) (at-start c).args.entries (at-start c).args.p (at-start c).args.q
@@ -54,19 +49,17 @@ passes c =
 returns : tie.Need-returns
 returns c =
     let s = c.before.before.before.before.before in
-    let a = s.args in (
-      c.refuse-selection.ensures
-          ∙ ap (λ (o : Outcome SelectResult none.Strings). o.answer)
-          (eleven modelsCoding none selectAnswers (selectCall a.entries a.p a.q) (strings s) tt (λ e. c.before.if1.true (omega arith))),
-      held c.before.before,
-    )
+    let a = s.args in
+    c.refuse-selection.ensures
+    ∙ ap (λ (o : Outcome SelectResult none.Strings). o.answer)
+    (eleven modelsCoding none selectAnswers (selectCall a.entries a.p a.q) (strings s) tt (λ e. c.before.if1.true (omega arith)))
 
 returns-2 : tie.Need-returns-2
 returns-2 c =
     let r = c.before.before in
     let s = at-start r in
     let a = s.args in
-    (c.refuse-selection2.ensures ∙ select-refused (given s) a.entries a.p a.q _ (refusal r) c.before.if2.true ∙ on-numbers r, held r.before.before.before)
+    c.refuse-selection2.ensures ∙ select-refused (given s) a.entries a.p a.q _ (refusal r) c.before.if2.true ∙ on-numbers r
 
 walk-requires : tie.Need-walk-requires
 walk-requires c κs =
@@ -87,12 +80,10 @@ returns-3 c =
     let w = c.before in
     let r = w.before.before in
     let s = at-start r in
-    let a = s.args in (
-      ap (λ (m : Model). entryIs w.walk.result m) c.entry_at.ensures
-          ∙ select-done (given s) a.entries a.p a.q (sym (refusal r) ∙ w.before.if2.false) w.walk.result (w.walk.ensures (given s).sizes)
-          ∙ on-numbers r,
-      held r.before.before.before,
-    )
+    let a = s.args in
+    ap (λ (m : Model). entryIs w.walk.result m) c.entry_at.ensures
+    ∙ select-done (given s) a.entries a.p a.q (sym (refusal r) ∙ w.before.if2.false) w.walk.result (w.walk.ensures (given s).sizes)
+    ∙ on-numbers r
 
 pub select-spec : {M : Type 1} → statement M
 select-spec =

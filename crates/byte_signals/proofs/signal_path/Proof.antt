@@ -4,40 +4,24 @@ use Prim.Native.Nat.{ℕ}
 use native.Mathlib.Omega.{arith}
 use lib.IntN.{ℤ, pos}
 use Rattle.least.specs.Segmentation.{maxSegments}
-use Rattle.coding.proofs.Strings.{bytes-held, front_length, front_fits}
-use Rattle.coding.proofs.Models.{models-held, fronts-fit}
+use Rattle.coding.proofs.Strings.{front_length, front_fits}
+use Rattle.coding.proofs.Models.{fronts-fit}
 use Rattle.coding.proofs.Calls.{eleven}
-use Rattle.path.specs.Model.{Lists, lists}
-use Rattle.signal.specs.SignalPath.{PathBuffers, pathBuffers}
-use Rattle.byte_signals.specs.Signals.{SignalStrings, signalStrings, signalCoding, pathCoding, signalPathAnswers, signalPathCall}
+use Rattle.path.specs.Model.{lists}
+use Rattle.signal.specs.SignalPath.{pathBuffers}
+use Rattle.byte_signals.specs.Signals.{signalStrings, signalCoding, pathCoding, signalPathAnswers, signalPathCall}
 use Rattle.byte_signals.specs.Inner.{readSamples, readWeights}
 use borrow.Author.Rules.{rules}
 use Rattle.byte_signals.proofs.signal_path.Statement.{statement}
 use Rattle.byte_signals.proofs.signal_path.Tie as tie
 
-abbrev input : tie.Start → SignalStrings
-input s = signalStrings s.args.samples.now s.args.weights.now
-
-abbrev strings : tie.Start → Lists
-strings s = lists s.args.path-sizes.now s.args.path-losses.now s.args.path-weights.now
-
-abbrev lent : tie.Start → PathBuffers
-lent s = pathBuffers (strings s) s.args.scratch.now
-
--- What was lent holds bytes.
-held : (c : tie.After-slice-known4) → signalCoding.Held (input c.before.before.before.before.before.before) × pathCoding.Held (lent c.before.before.before.before.before.before)
-held c =
-    let k = c.before.before.before.before in
-    let s = k.before.before in (
-      (bytes-held (input s).samples k.before.shared-slice-known.given, bytes-held (input s).weights k.shared-slice-known2.given),
-      (models-held (strings s) c.before.before.before.slice-known.given c.before.before.slice-known2.given c.before.slice-known3.given, tt),
-    )
-
 returns : tie.Need-returns
 returns c =
-    let s = c.before.before.before.before.before.before.before in
-    let call = signalPathCall s.args.max-segments s.args.min-segment-len in
-    (eleven signalCoding pathCoding signalPathAnswers call (input s) (lent s) (λ e. c.if1.true (omega arith)), held c.before)
+    let a = c.before.before.before.before.before.before.before.args in
+    let strings = lists a.path-sizes.now a.path-losses.now a.path-weights.now in
+    let input = signalStrings a.samples.now a.weights.now in
+    let call = signalPathCall a.max-segments a.min-segment-len in
+    eleven signalCoding pathCoding signalPathAnswers call input (pathBuffers strings a.scratch.now) (λ e. c.if1.true (omega arith))
 
 array-borrow-prefix-sample-items : tie.Need-array-borrow-prefix-sample-items
 array-borrow-prefix-sample-items c = omega (arith, c.before.before.before.before.before.before.before.before.smaller.ensures)
@@ -78,19 +62,16 @@ path-items-requires c κs =
     let at-smaller = at-smaller2.before in
     let at-else1 = at-smaller.before in
     let start = at-else1.before.before.before.before.before.before.before in
+    let a = start.args in
+    let strings = lists a.path-sizes.now a.path-losses.now a.path-weights.now in
     record {
       whole = omega (arith, at-else1.if1.false);
       input = record {
         samples-fit = front_fits {A = ℤ} (pos 0) readSamples _ _ at-smaller.smaller.ensures refl (omega arith);
         weights-fit = front_fits {A = ℕ} 0 readWeights _ _ at-smaller2.smaller2.ensures refl (omega arith);
       };
-      fit = fronts-fit (strings start) maxSegments maxSegments at-smaller3.smaller3.ensures at-smaller4.smaller4.ensures at-smaller5.smaller5.ensures refl (omega arith);
+      fit = fronts-fit strings maxSegments maxSegments at-smaller3.smaller3.ensures at-smaller4.smaller4.ensures at-smaller5.smaller5.ensures refl (omega arith);
     }
-
-returns-2 : tie.Need-returns-2
-returns-2 c =
-    let w = c.before.before.before.before.before.before.before.before.before.before.before.before.before in
-    (w.path-items.ensures, held w.before.before.before.before.before.before.before.before.before.before.before.before.before.before.before.before)
 
 pub signal-path-spec : {M : Type 1} → statement M
 signal-path-spec =
@@ -121,4 +102,4 @@ signal-path-spec =
     (λ c. search rules)
     (λ c. search rules)
     (λ c. search rules)
-    returns-2)
+    (λ c. search rules))

@@ -4,11 +4,11 @@ use Prim.Native.Nat.{ℕ, ◌+◌}
 use native.Mathlib.Omega.{arith}
 use lib.IntN.{ℤ, pos}
 use Rattle.least.specs.Segmentation.{maxSegments}
-use Rattle.coding.proofs.Strings.{bytes-held, front_length, front_fits}
-use Rattle.coding.proofs.Models.{models-held, fronts-fit}
+use Rattle.coding.proofs.Strings.{front_length, front_fits}
+use Rattle.coding.proofs.Models.{fronts-fit}
 use Rattle.coding.proofs.Calls.{eleven}
-use Rattle.path.specs.Model.{Lists, lists}
-use Rattle.byte_signals.specs.Signals.{SignalStrings, signalStrings, signalCoding, SplitStrings, splitStrings, splitCoding, splitAnswers, splitCall}
+use Rattle.path.specs.Model.{lists}
+use Rattle.byte_signals.specs.Signals.{signalStrings, signalCoding, splitStrings, splitCoding, splitAnswers, splitCall}
 use Rattle.byte_signals.specs.Inner.{readSamples, readWeights}
 use borrow.Author.Rules.{rules}
 use Rattle.byte_signals.proofs.split.Statement.{statement}
@@ -18,37 +18,14 @@ use Rattle.byte_signals.proofs.split.Tie as tie
 none_over : (a b c d e f g : ℕ) → a + b + c + d + e + f + g ≡ 0 → a + b + (c + (d + (e + (f + g) + 0))) ≡ 0
 none_over a b c d e f g h = omega arith
 
-abbrev input : tie.Start → SignalStrings
-input s = signalStrings s.args.samples.now s.args.weights.now
-
-abbrev strings : tie.Start → Lists
-strings s = lists s.args.path-sizes.now s.args.path-losses.now s.args.path-weights.now
-
-abbrev lent : tie.Start → SplitStrings
-lent s = splitStrings s.args.starts.now s.args.levels.now (strings s) s.args.scratch.now
-
--- What was lent holds bytes.
-held : (c : tie.After-slice-known6) → signalCoding.Held (input c.before.before.before.before.before.before.before.before) × splitCoding.Held (lent c.before.before.before.before.before.before.before.before)
-held c =
-    let m = c.before.before.before.before in
-    let k = m.before.before in
-    let s = k.before.before in (
-      (bytes-held (input s).samples k.before.shared-slice-known.given, bytes-held (input s).weights k.shared-slice-known2.given),
-      (
-        bytes-held (lent s).starts m.before.slice-known.given,
-        (
-          bytes-held (lent s).levels m.slice-known2.given,
-          (models-held (strings s) c.before.before.before.slice-known3.given c.before.before.slice-known4.given c.before.slice-known5.given, tt),
-        ),
-      ),
-    )
-
 returns : tie.Need-returns
 returns c =
-    let s = c.before.before.before.before.before.before.before.before.before in
-    let a = s.args in
+    let a = c.before.before.before.before.before.before.before.before.before.args in
+    let strings = lists a.path-sizes.now a.path-losses.now a.path-weights.now in
+    let input = signalStrings a.samples.now a.weights.now in
+    let lent = splitStrings a.starts.now a.levels.now strings a.scratch.now in
     let call = splitCall a.max-segments a.min-segment-len a.p a.q in
-    (eleven signalCoding splitCoding splitAnswers call (input s) (lent s) (λ e. c.if1.true (omega arith)), held c.before)
+    eleven signalCoding splitCoding splitAnswers call input lent (λ e. c.if1.true (omega arith))
 
 array-borrow-prefix-sample-items : tie.Need-array-borrow-prefix-sample-items
 array-borrow-prefix-sample-items c = omega (arith, c.before.before.before.before.before.before.before.before.before.before.before.before.smaller.ensures)
@@ -103,6 +80,8 @@ split-items-requires c κs =
     let at-smaller = at-smaller2.before in
     let at-else1 = at-smaller.before in
     let start = at-else1.before.before.before.before.before.before.before.before.before in
+    let a = start.args in
+    let strings = lists a.path-sizes.now a.path-losses.now a.path-weights.now in
     record {
       whole = none_over _ _ _ _ _ _ _ at-else1.if1.false;
       input = record {
@@ -111,7 +90,7 @@ split-items-requires c κs =
       };
       starts_fit = front_fits {A = ℕ} 0 maxSegments _ _ at-smaller3.smaller3.ensures refl (omega arith);
       levels-fit = front_fits {A = ℤ} (pos 0) maxSegments _ _ at-smaller4.smaller4.ensures refl (omega arith);
-      fit = fronts-fit (strings start) maxSegments maxSegments at-smaller5.smaller5.ensures at-smaller6.smaller6.ensures at-smaller7.smaller7.ensures refl (omega arith);
+      fit = fronts-fit strings maxSegments maxSegments at-smaller5.smaller5.ensures at-smaller6.smaller6.ensures at-smaller7.smaller7.ensures refl (omega arith);
     }
 
 same_length : tie.Need-same-length
@@ -143,11 +122,6 @@ same-length-6 : tie.Need-same-length-6
 same-length-6 c =
     let at-split-items = c.before.before.before.before.before.before.before.before.before.before.before.before.before.before.before.before.before.before.before in
     at-split-items.split-items.auto.1.1.1.1.1.1.1.1.1.1.1.0
-
-returns-2 : tie.Need-returns-2
-returns-2 c =
-    let w = c.before.before.before.before.before.before.before.before.before.before.before.before.before.before.before.before.before.before.before in
-    (w.split-items.ensures, held w.before.before.before.before.before.before.before.before.before.before.before.before.before.before.before.before.before.before.before.before.before.before)
 
 pub split-spec : {M : Type 1} → statement M
 split-spec =
@@ -188,4 +162,4 @@ split-spec =
     same-length-4
     same-length-5
     same-length-6
-    returns-2)
+    (λ c. search rules))

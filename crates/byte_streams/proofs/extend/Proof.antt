@@ -6,44 +6,23 @@ use lib.IntN.{ℤ, pos}
 use mir.Syntax.{w16}
 use mir.Facts.{to_z-of_z}
 use Rattle.coding.specs.Coding.{signeds}
-use Rattle.coding.proofs.Strings.{bytes-held, front_length, front_fits}
-use Rattle.coding.proofs.Models.{models-held, fronts-fit}
+use Rattle.coding.proofs.Strings.{front_length, front_fits}
+use Rattle.coding.proofs.Models.{fronts-fit}
 use Rattle.coding.proofs.Calls.{eleven}
-use Rattle.path.specs.Model.{Lists, lists}
-use Rattle.segment.specs.Segment.{Sample16}
-use Rattle.segment.proofs.Bounds.{fits-sample}
+use Rattle.path.specs.Model.{lists}
 use Rattle.stream.specs.Table.{maxRows}
-use Rattle.stream.specs.Extend.{StreamBuffers, streamBuffers}
+use Rattle.stream.specs.Extend.{streamBuffers}
 use Rattle.byte_signals.specs.Inner.{readSamples}
 use Rattle.byte_streams.specs.Streams.{streamCoding, extendAnswers, extendCall, extendBytesOf}
 use borrow.Author.Rules.{rules}
 use Rattle.byte_streams.proofs.extend.Statement.{statement}
 use Rattle.byte_streams.proofs.extend.Tie as tie
 
-abbrev strings : tie.Start → Lists
-strings s = lists s.args.path-sizes.now s.args.path-losses.now s.args.path-weights.now
-
-abbrev lent : tie.Start → StreamBuffers
-lent s = streamBuffers s.args.table.now (strings s)
-
--- What was lent holds bytes, and the sample is of 16 bits.
-abbrev Held : tie.Start → Type 0
-Held s = signeds.Held s.args.samples.now × Sample16 s.args.sample × streamCoding.Held (lent s)
-
-held : (c : tie.After-slice-known4) → Held c.before.before.before.before.before
-held c =
-    let k = c.before.before.before.before in
-    let s = k.before in (
-      bytes-held s.args.samples.now k.shared-slice-known.given,
-      fits-sample s.args.sample s.ranges.sample.sfits,
-      (tt, models-held (strings s) c.before.before.slice-known2.given c.before.slice-known3.given c.slice-known4.given),
-    )
-
 returns : tie.Need-returns
 returns c =
-    let s = c.before.before.before.before.before.before in
-    let call = extendCall s.args.sample s.args.max-segments in
-    (eleven signeds streamCoding extendAnswers call s.args.samples.now (lent s) (λ e. c.if1.true (omega arith)), held c.before)
+    let a = c.before.before.before.before.before.before.args in
+    let lent = streamBuffers a.table.now (lists a.path-sizes.now a.path-losses.now a.path-weights.now) in
+    eleven signeds streamCoding extendAnswers (extendCall a.sample a.max-segments) a.samples.now lent (λ e. c.if1.true (omega arith))
 
 array-borrow-prefix-sample-items : tie.Need-array-borrow-prefix-sample-items
 array-borrow-prefix-sample-items c = omega (arith, c.before.before.before.before.before.before.before.smaller.ensures)
@@ -77,22 +56,22 @@ extend-items-requires c κs =
     let at-smaller = at-smaller2.before in
     let at-else1 = at-smaller.before in
     let start = at-else1.before.before.before.before.before.before in
+    let a = start.args in
+    let strings = lists a.path-sizes.now a.path-losses.now a.path-weights.now in
     record {
       whole = omega (arith, at-else1.if1.false);
       samples-fit = front_fits {A = ℤ} (pos 0) readSamples _ _ at-smaller.smaller.ensures refl (omega arith);
-      fit = fronts-fit (strings start) maxRows maxRows at-smaller2.smaller2.ensures at-smaller3.smaller3.ensures at-smaller4.smaller4.ensures refl (omega arith);
+      fit = fronts-fit strings maxRows maxRows at-smaller2.smaller2.ensures at-smaller3.smaller3.ensures at-smaller4.smaller4.ensures refl (omega arith);
     }
 
 returns-2 : tie.Need-returns-2
 returns-2 c =
     let at-extend-items = c.before.before.before.before.before.before.before.before.before.before.before.before in
-    let known = at-extend-items.before.before.before.before.before.before.before.before.before.before.before.before.before.before in
-    let start = known.before.before.before.before.before in
-    let a = start.args in (
-      at-extend-items.extend-items.ensures
-          ∙ ap (λ (x : ℤ). extendBytesOf a.samples.now x a.max-segments (lent start)) (to_z-of_z {w = w16} start.ranges.sample),
-      held known,
-    )
+    let start = at-extend-items.before.before.before.before.before.before.before.before.before.before.before.before.before.before.before.before.before.before.before in
+    let a = start.args in
+    let lent = streamBuffers a.table.now (lists a.path-sizes.now a.path-losses.now a.path-weights.now) in
+    at-extend-items.extend-items.ensures
+    ∙ ap (λ (x : ℤ). extendBytesOf a.samples.now x a.max-segments lent) (to_z-of_z {w = w16} start.ranges.sample)
 
 pub extend-spec : {M : Type 1} → statement M
 extend-spec =

@@ -4,33 +4,20 @@ use Prim.Native.Nat.{ℕ}
 use native.Mathlib.Omega.{arith}
 use lib.IntN.{ℤ, pos}
 use Rattle.coding.specs.Coding.{signeds}
-use Rattle.coding.proofs.Strings.{bytes-held, front_length, front_fits}
+use Rattle.coding.proofs.Strings.{front_length, front_fits}
 use Rattle.coding.proofs.Calls.{eleven}
 use Rattle.stream.specs.Table.{maxRows}
 use Rattle.byte_signals.specs.Inner.{readSamples}
-use Rattle.byte_streams.specs.Streams.{SegmentStrings, segmentStrings, segmentsCoding, splitFromAnswers, splitFromCall}
+use Rattle.byte_streams.specs.Streams.{segmentStrings, segmentsCoding, splitFromAnswers, splitFromCall}
 use borrow.Author.Rules.{rules}
 use Rattle.byte_streams.proofs.split_from.Statement.{statement}
 use Rattle.byte_streams.proofs.split_from.Tie as tie
 
-abbrev lent : tie.Start → SegmentStrings
-lent s = segmentStrings s.args.starts.now s.args.levels.now
-
--- What was lent holds bytes.
-held : (c : tie.After-slice-known2) → signeds.Held c.before.before.before.before.args.samples.now × segmentsCoding.Held (lent c.before.before.before.before)
-held c =
-    let k = c.before.before.before in
-    let s = k.before in (
-      bytes-held s.args.samples.now k.shared-slice-known.given,
-      (bytes-held (lent s).starts c.before.slice-known.given, bytes-held (lent s).levels c.slice-known2.given),
-    )
-
 returns : tie.Need-returns
 returns c =
-    let s = c.before.before.before.before.before in
-    let a = s.args in
+    let a = c.before.before.before.before.before.args in
     let call = splitFromCall a.max-segments a.p a.q a.table.now in
-    (eleven signeds segmentsCoding splitFromAnswers call a.samples.now (lent s) (λ e. c.if1.true (omega arith)), held c.before)
+    eleven signeds segmentsCoding splitFromAnswers call a.samples.now (segmentStrings a.starts.now a.levels.now) (λ e. c.if1.true (omega arith))
 
 slice-aggregate-split-from-items : tie.Need-slice-aggregate-split-from-items
 slice-aggregate-split-from-items c =
@@ -53,11 +40,6 @@ split-from-items-requires c κs =
       levels-fit = front_fits {A = ℤ} (pos 0) maxRows _ _ c.before.before.before.before.before.smaller3.ensures refl (omega arith);
     }
 
-returns-2 : tie.Need-returns-2
-returns-2 c =
-    let w = c.before.before.before.before.before.before.before in
-    (w.split-from-items.ensures, held w.before.before.before.before.before.before.before.before.before.before)
-
 pub split-from-spec : {M : Type 1} → statement M
 split-from-spec =
     tie.close
@@ -77,4 +59,4 @@ split-from-spec =
     split-from-items-requires
     (λ c. search rules)
     (λ c. search rules)
-    returns-2)
+    (λ c. search rules))

@@ -47,7 +47,7 @@ returns c =
     returned samplesCut segmentsCut splitFromAnswers call a.samples.now lent s.pre.whole
     (bytes-held a.starts.now k.before.slice-known.given, bytes-held a.levels.now k.slice-known2.given)
     (split-from-cut a.max-segments a.p a.q a.table.now _ _) a.sample-items.now lists left made.result
-    (ap splitFromTold made.ensures.0
+    (ap splitFromTold made.ensures
     ∙ (λ i. call (r.read-i16s.ensures i) (segmentBuffers (segments.ensures.starts-are i) (segments.ensures.levels-are i))))
     s.pre.samples-fit (s.pre.starts_fit, s.pre.levels-fit)
     (long.0 ∙ segments.kept.1.1.0 ∙ s.pre.starts_fit, long.1.0 ∙ segments.kept.1.1.1.0 ∙ s.pre.levels-fit)

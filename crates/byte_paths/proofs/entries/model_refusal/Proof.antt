@@ -1,12 +1,13 @@
 -- `byte_paths::entries::model_refusal` meets its contract: it goes by the last entry alone.
-use mathlib.Core.Path.{◌≡◌, ap, ◌∙◌}
-use mathlib.Core.List.{[], ◌∷◌}
+use mathlib.Core.Path.{◌≡◌, refl, ap, ◌∙◌}
+use mathlib.Core.List.{List, [], ◌∷◌}
 use Prim.Native.Nat.{ℕ, zero, suc, min}
 use native.Mathlib.Omega.{arith}
 use lib.ListN.{take}
 use Rattle.coding.specs.Models.{modelsCoding}
 use Rattle.path.specs.Model.{Model, Lists, lists, pathOf}
 use Rattle.path.specs.Model.{model}
+use Rattle.path.specs.Refusal.{modelChecks, refusalOf}
 use Rattle.path.proofs.Order.{same-checks}
 use Rattle.byte_paths.specs.Inner.{LastIs}
 use borrow.Author.Rules.{rules}

@@ -1,5 +1,6 @@
 -- `byte_paths::entries::ordered` meets its contract. The loop's invariant: the check has come to the entry at hand.
 use mathlib.Core.Path.{◌≡◌, ap, sym, ◌∙◌}
+use mathlib.Core.Bool.{Bool}
 use Prim.Native.Nat.{◌-◌}
 use native.Mathlib.Omega.{arith}
 use borrow.Author.Tests.{not-true, not-false}

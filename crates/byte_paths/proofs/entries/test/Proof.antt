@@ -1,8 +1,9 @@
 -- `byte_paths::entries::test` meets its contract: at the first entry, and at a later one with the entry before it.
 use Prim.Native.Nat.{suc, ◌-◌}
-use mathlib.Core.Path.{◌≡◌}
+use mathlib.Core.Path.{◌≡◌, subst}
 use native.Mathlib.Omega.{arith}
 use Rattle.layout.specs.Items.{items_of}
+use Rattle.path.specs.Inner.{Scannable}
 use Rattle.path.proofs.Scans.{tests-first, tests-later, two-scannable}
 use borrow.Author.Rules.{rules}
 use Rattle.byte_paths.proofs.entries.test.Statement.{statement}

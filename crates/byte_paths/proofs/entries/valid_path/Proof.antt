@@ -1,9 +1,9 @@
 -- `byte_paths::entries::valid_path` meets its contract: the strings have room for the path or not, and then its order decides.
-use mathlib.Core.Path.{sym, ◌∙◌}
+use mathlib.Core.Path.{◌≡◌, sym, ◌∙◌}
 use borrow.Author.Tests.{not-true, not-false}
 use Rattle.coding.specs.Models.{modelsCoding}
 use Rattle.path.specs.Model.{lists}
-use Rattle.path.specs.Refusal.{validPath}
+use Rattle.path.specs.Refusal.{pathRoom, validPath}
 use Rattle.path.proofs.Order.{room-places}
 use Rattle.byte_paths.proofs.Rooms.{room-numbers}
 use borrow.Author.Rules.{rules}

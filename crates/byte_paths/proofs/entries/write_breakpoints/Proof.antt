@@ -1,6 +1,6 @@
 -- `byte_paths::entries::write_breakpoints` meets its contract. The loop's invariant: the strings spell the breakpoints of the first
 -- i + 1 entries. No difference is negative.
-use mathlib.Core.Path.{◌≡◌, subst, sym}
+use mathlib.Core.Path.{◌≡◌, subst, sym, ◌∙◌}
 use mathlib.Core.List.{List}
 use Prim.Native.Nat.{ℕ, ◌+◌, ◌*◌, ◌-◌, ◌≤◌, ◌<◌}
 use native.Mathlib.Numerals.{add-one}
