@@ -6,50 +6,50 @@ use Prim.Native.Nat.{◌/◌}
 use native.Mathlib.Omega.{arith}
 use lib.ListN.{length}
 use Rattle.coding.specs.Coding.{outcome}
-use Rattle.coding.specs.Models.{modelsCoding}
+use Rattle.coding.specs.Models.{models_coding}
 use Rattle.coding.specs.Inner.{ListsFit}
-use Rattle.coding.proofs.Models.{modelsCut}
+use Rattle.coding.proofs.Models.{models_cut}
 use Rattle.layout.proofs.ItemLists.{length-items}
 use Rattle.path.specs.Model.{Lists, lengths}
 use Rattle.path.specs.Append.{PathOutcome}
-use Rattle.path.specs.Inner.{firstPlaces}
+use Rattle.path.specs.Inner.{first_places}
 use Rattle.build.specs.Build.{count_of}
-use Rattle.quadratic.specs.Inner.{withinBy}
+use Rattle.quadratic.specs.Inner.{within_by}
 use Rattle.quadratic.proofs.Methods.{refused-by, accepted-by, fits_by}
-use Rattle.byte_paths.specs.Paths.{pathTold, buildCall}
-use Rattle.byte_paths.specs.Inner.{modelsRead}
+use Rattle.byte_paths.specs.Paths.{path_told, build_call}
+use Rattle.byte_paths.specs.Inner.{models_read}
 
 -- A build in the lists that its models are read to, of which it reads one too many if there are so many.
 module _ (older : Bool) (x b : Lists) where
   abbrev read : Lists
-  read = firstPlaces modelsRead (modelsCoding.numbers x)
+  read = first_places models_read (models_coding.numbers x)
 
   abbrev lent : Lists
-  lent = modelsCoding.numbers b
+  lent = models_coding.numbers b
 
   -- It is made with the rooms of the buffers.
   pub build-read : (o : PathOutcome) (t : Lists) → t ≡ read
-      → o ≡ withinBy older t (length b.sizes / 2 ∷ length b.losses / 8 ∷ length b.weights / 2 ∷ []) → o ≡ withinBy older read (lengths lent)
+      → o ≡ within_by older t (length b.sizes / 2 ∷ length b.losses / 8 ∷ length b.weights / 2 ∷ []) → o ≡ within_by older read (lengths lent)
   build-read o t e is =
       let s = sym (length-items 2 b.sizes (length b.sizes / 2)) in
       let l = sym (length-items 8 b.losses (length b.losses / 8)) in
       let w = sym (length-items 2 b.weights (length b.weights / 2)) in
-      is ∙ (λ i. withinBy older (e i) (s i ∷ l i ∷ w i ∷ []))
+      is ∙ (λ i. within_by older (e i) (s i ∷ l i ∷ w i ∷ []))
 
-  module _ (o : PathOutcome) (is : o ≡ withinBy older read (lengths lent)) where
-    pub build-refused : (o.refusal ≡ 0 → ⊥) → outcome (pathTold o).answer lent ≡ buildCall older (modelsCoding.numbers x) lent
-    build-refused h = ap pathTold (refused-by older (modelsCoding.numbers x) lent modelsRead (omega arith) o is h)
+  module _ (o : PathOutcome) (is : o ≡ within_by older read (lengths lent)) where
+    pub build-refused : (o.refusal ≡ 0 → ⊥) → outcome (path_told o).answer lent ≡ build_call older (models_coding.numbers x) lent
+    build-refused h = ap path_told (refused-by older (models_coding.numbers x) lent models_read (omega arith) o is h)
 
     module _ (h : o.refusal ≡ 0) where
-      pub build-accepted : outcome (pathTold o).answer ((modelsCut (count_of read)).rejoined lent o.buffers) ≡ buildCall older (modelsCoding.numbers x) lent
-      build-accepted = ap pathTold (accepted-by older (modelsCoding.numbers x) lent modelsRead (omega arith) o is h)
+      pub build-accepted : outcome (path_told o).answer ((models_cut (count_of read)).rejoined lent o.buffers) ≡ build_call older (models_coding.numbers x) lent
+      build-accepted = ap path_told (accepted-by older (models_coding.numbers x) lent models_read (omega arith) o is h)
 
       -- Then the buffers have room for the lists.
       pub build-fits : ListsFit (count_of read) b (length read.sizes) (length read.losses) (length read.weights)
       build-fits =
-          let f = fits_by older (modelsCoding.numbers x) lent modelsRead (omega arith) o is h in
+          let f = fits_by older (models_coding.numbers x) lent models_read (omega arith) o is h in
           record {
-            sizes-fit = omega (arith, f.sizes, f.room.in-sizes, length-items 2 b.sizes (length b.sizes / 2));
-            losses-fit = omega (arith, f.losses, f.room.in-losses, length-items 8 b.losses (length b.losses / 8));
-            weights-fit = omega (arith, f.weights, f.room.in-weights, length-items 2 b.weights (length b.weights / 2));
+            sizes_fit = omega (arith, f.sizes, f.room.in_sizes, length-items 2 b.sizes (length b.sizes / 2));
+            losses_fit = omega (arith, f.losses, f.room.in_losses, length-items 8 b.losses (length b.losses / 8));
+            weights_fit = omega (arith, f.weights, f.room.in_weights, length-items 2 b.weights (length b.weights / 2));
           }

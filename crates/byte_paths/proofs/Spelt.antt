@@ -5,13 +5,13 @@ use Prim.Native.Nat.{ℕ, suc, ◌+◌, ◌*◌, ◌%◌, ◌≤◌, ◌<◌}
 use native.Mathlib.Nat.{mul-suc, mul-le-mul_left}
 use native.Mathlib.Omega.{arith}
 use lib.ListN.{length}
-use Rattle.layout.specs.Item.{setItem}
+use Rattle.layout.specs.Item.{set_item}
 use Rattle.layout.specs.Items.{Bytes, items_of, bytes_of}
-use Rattle.layout.proofs.Laws.{length-setItem}
+use Rattle.layout.proofs.Laws.{length-set_item}
 use Rattle.layout.proofs.ItemLists.{length-bytes, set-item}
 use Rattle.coding.proofs.Strings.{items_back}
-use Rattle.path.specs.Model.{lists, model_at, pathOf, values_of}
-use Rattle.path.specs.Update.{Fraction, breakpoint, pathBreakpoints}
+use Rattle.path.specs.Model.{lists, model_at, path_of, values_of}
+use Rattle.path.specs.Update.{Fraction, breakpoint, path_breakpoints}
 use Rattle.path.specs.Buffer.{overwritten}
 use Rattle.select.proofs.Listings.{written_none, written_step, written-long}
 use Rattle.byte_paths.specs.Inner.{WrittenIn}
@@ -32,14 +32,14 @@ module _ (k : ℕ) (field : Fraction → ℕ) (losses weights b₀ : List ℕ) (
 
   pub spelt-more : (b : List ℕ) (i : ℕ) → WrittenIn k field losses weights b₀ b i → i < length (items_of k b₀)
       → (x : ℕ) → ((s : List ℕ) → x ≡ field (breakpoint (model_at (lists s (items_of 8 losses) (items_of 2 weights)) i) (model_at (lists s (items_of 8 losses) (items_of 2 weights)) (i + 1))))
-      → WrittenIn k field losses weights b₀ (setItem k b (k * i) x) (i + 1)
+      → WrittenIn k field losses weights b₀ (set_item k b (k * i) x) (i + 1)
   spelt-more b i h inside x e =
       record {
-        long = length-setItem k b (k * i) x ∙ h.long;
+        long = length-set_item k b (k * i) x ∙ h.long;
         is = λ s.
             let t = lists s (items_of 8 losses) (items_of 2 weights) in
-            let front = overwritten (values_of field (pathBreakpoints (pathOf t (suc i)))) (items_of k b₀) in
-            ap (λ (y : List ℕ). setItem k y (k * i) x) (h.is s)
+            let front = overwritten (values_of field (path_breakpoints (path_of t (suc i)))) (items_of k b₀) in
+            ap (λ (y : List ℕ). set_item k y (k * i) x) (h.is s)
             ∙ set-item k front i x (omega (arith, written-long field t (items_of k b₀) i (omega arith)))
             ∙ ap (bytes_of k) (written_step field t (items_of k b₀) i x inside (e s));
       }

@@ -4,12 +4,12 @@
 
 ghost use Rattle.std.specs.Prelude.{◌≡◌, true, ◌∷◌, ◌+◌, ◌-◌, ◌≤◌, length};
 ghost use Rattle.layout.specs.Items.{items_of};
-ghost use Rattle.coding.specs.Models.{modelsCoding};
-ghost use Rattle.path.specs.Model.{model, lists, model_at, pathOf};
-ghost use Rattle.path.specs.Refusal.{in_range, follows, ordered, validPath, check, modelChecks, refusalOf};
+ghost use Rattle.coding.specs.Models.{models_coding};
+ghost use Rattle.path.specs.Model.{model, lists, model_at, path_of};
+ghost use Rattle.path.specs.Refusal.{in_range, follows, ordered, valid_path, check, model_checks, refusal_of};
 ghost use Rattle.path.specs.Inner.{HasPlaces, Scannable, PassesOver, TestsLast, KeepsOf, tally_of};
 ghost use Rattle.path.specs.Update.{Fraction};
-ghost use Rattle.select.specs.Penalty.{validPenalty};
+ghost use Rattle.select.specs.Penalty.{valid_penalty};
 ghost use Rattle.select.specs.Inner.{Walkable, Selects};
 ghost use Rattle.byte_paths.specs.Inner.{LastIs, ListableIn, WrittenIn};
 
@@ -29,9 +29,9 @@ pub struct Entry {
 
 // The entry at place i.
 pub fn entry_at(sizes: &[u8], losses: &[u8], weights: &[u8], i: usize) -> Entry
-    requires { HasPlaces (modelsCoding.numbers (lists sizes.now losses.now weights.now)) (i + 1) }
+    requires { HasPlaces (models_coding.numbers (lists sizes.now losses.now weights.now)) (i + 1) }
     ensures { model result.size result.loss result.weight
-        ≡ model_at (modelsCoding.numbers (lists sizes.now losses.now weights.now)) i }
+        ≡ model_at (models_coding.numbers (lists sizes.now losses.now weights.now)) i }
 {
     Entry {
         size: item_u16(sizes, i),
@@ -57,9 +57,9 @@ fn follows(d: Entry, e: Entry) -> bool
 // Whether the first entries are in range, with sizes and weights rising and losses falling. Where they do, what is in range at both ends
 // is in range between them.
 fn ordered(sizes: &[u8], losses: &[u8], weights: &[u8], entries: usize) -> bool
-    requires { HasPlaces (modelsCoding.numbers (lists sizes.now losses.now weights.now)) entries }
+    requires { HasPlaces (models_coding.numbers (lists sizes.now losses.now weights.now)) entries }
     ensures { result ≡ ordered
-        (pathOf (modelsCoding.numbers (lists sizes.now losses.now weights.now)) entries) }
+        (path_of (models_coding.numbers (lists sizes.now losses.now weights.now)) entries) }
 {
     if entries == 0 {
         return true;
@@ -82,8 +82,8 @@ fn ordered(sizes: &[u8], losses: &[u8], weights: &[u8], entries: usize) -> bool
 
 // Whether a path of so many entries is in order.
 pub fn valid_path(sizes: &[u8], losses: &[u8], weights: &[u8], entries: usize) -> bool
-    ensures { result ≡ validPath
-        (modelsCoding.numbers (lists sizes.now losses.now weights.now)) entries }
+    ensures { result ≡ valid_path
+        (models_coding.numbers (lists sizes.now losses.now weights.now)) entries }
 {
     if !path::path_has_room(
         entries,
@@ -98,9 +98,9 @@ pub fn valid_path(sizes: &[u8], losses: &[u8], weights: &[u8], entries: usize) -
 
 // The last entry, or zeros where there is none.
 fn last_entry(sizes: &[u8], losses: &[u8], weights: &[u8], entries: usize) -> Entry
-    requires { HasPlaces (modelsCoding.numbers (lists sizes.now losses.now weights.now)) entries }
+    requires { HasPlaces (models_coding.numbers (lists sizes.now losses.now weights.now)) entries }
     ensures { LastIs
-        (pathOf (modelsCoding.numbers (lists sizes.now losses.now weights.now)) entries)
+        (path_of (models_coding.numbers (lists sizes.now losses.now weights.now)) entries)
         (model result.size result.loss result.weight) }
 {
     if entries == 0 {
@@ -123,9 +123,9 @@ fn model_refusal(
     loss: u64,
     weight: u64,
 ) -> u64
-    requires { HasPlaces (modelsCoding.numbers (lists sizes.now losses.now weights.now)) entries }
-    ensures { result ≡ refusalOf (modelChecks
-        (pathOf (modelsCoding.numbers (lists sizes.now losses.now weights.now)) entries)
+    requires { HasPlaces (models_coding.numbers (lists sizes.now losses.now weights.now)) entries }
+    ensures { result ≡ refusal_of (model_checks
+        (path_of (models_coding.numbers (lists sizes.now losses.now weights.now)) entries)
         (model size loss weight)) }
 {
     let last = last_entry(sizes, losses, weights, entries);
@@ -153,10 +153,10 @@ pub fn input_refusal(
     loss: u64,
     weight: u64,
 ) -> u64
-    ensures { result ≡ refusalOf
-        (check 8 (validPath (modelsCoding.numbers (lists sizes.now losses.now weights.now)) entries)
-        ∷ modelChecks
-        (pathOf (modelsCoding.numbers (lists sizes.now losses.now weights.now)) entries)
+    ensures { result ≡ refusal_of
+        (check 8 (valid_path (models_coding.numbers (lists sizes.now losses.now weights.now)) entries)
+        ∷ model_checks
+        (path_of (models_coding.numbers (lists sizes.now losses.now weights.now)) entries)
         (model size loss weight)) }
 {
     if !valid_path(sizes, losses, weights, entries) {
@@ -249,7 +249,7 @@ pub fn try_model(
 
 // Walks from the first entry on while the next one costs strictly less. Costs go by losses and weights.
 pub fn walk(losses: &[u8], weights: &[u8], entries: usize, p: u64, q: u64) -> usize
-    requires { Walkable (items_of 8 losses.now) (items_of 2 weights.now) entries × (validPenalty p q ≡ true) }
+    requires { Walkable (items_of 8 losses.now) (items_of 2 weights.now) entries × (valid_penalty p q ≡ true) }
     ensures { Selects (items_of 8 losses.now) (items_of 2 weights.now) entries p q result }
 {
     let last = entries - 1;

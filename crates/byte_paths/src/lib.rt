@@ -3,11 +3,11 @@
 
 ghost use Rattle.std.specs.Prelude.{◌≡◌, ◌+◌, length};
 ghost use Rattle.coding.specs.Coding.{outcome};
-ghost use Rattle.coding.specs.Models.{modelsCoding};
+ghost use Rattle.coding.specs.Models.{models_coding};
 ghost use Rattle.path.specs.Model.{model, lists};
-ghost use Rattle.byte_paths.specs.Paths.{appendBytesOf, buildBytesBy, selectBytesOf, fractions, fractionsCoding, breakpointsBytesOf};
-ghost use Rattle.byte_paths.specs.Inner.{BuildFits, appendEncoded, breakpointsEncoded};
-ghost use Rattle.select.specs.Select.{selectRefused};
+ghost use Rattle.byte_paths.specs.Paths.{append_bytes_of, build_bytes_by, select_bytes_of, fractions, fractions_coding, breakpoints_bytes_of};
+ghost use Rattle.byte_paths.specs.Inner.{BuildFits, append_encoded, breakpoints_encoded};
+ghost use Rattle.select.specs.Select.{select_refused};
 
 pub mod entries;
 
@@ -29,9 +29,9 @@ fn append_whole(
     loss: u64,
     weight: u64,
 ) -> PathResult
-    requires { modelsCoding.spare (lists sizes.old losses.old weights.old) ≡ 0 }
+    requires { models_coding.spare (lists sizes.old losses.old weights.old) ≡ 0 }
     ensures { outcome result (lists sizes.new losses.new weights.new)
-        ≡ appendEncoded (lists sizes.old losses.old weights.old) entries (model size loss weight) }
+        ≡ append_encoded (lists sizes.old losses.old weights.old) entries (model size loss weight) }
 {
     let refusal = entries::input_refusal(sizes, losses, weights, entries, size, loss, weight);
     if refusal != 0 {
@@ -72,7 +72,7 @@ pub fn append(
     weight: u64,
 ) -> PathResult
     ensures { outcome result (lists sizes.new losses.new weights.new)
-        ≡ appendBytesOf (lists sizes.old losses.old weights.old) entries (model size loss weight) }
+        ≡ append_bytes_of (lists sizes.old losses.old weights.old) entries (model size loss weight) }
 {
     if sizes.len() % 2 + losses.len() % 8 + weights.len() % 2 != 0 {
         return path::refuse(11);
@@ -98,7 +98,7 @@ fn build_items(
         (lists path_sizes.old path_losses.old path_weights.old)
         (length size_items.old) (length loss_items.old) (length weight_items.old) }
     ensures { outcome result (lists path_sizes.new path_losses.new path_weights.new)
-        ≡ buildBytesBy older
+        ≡ build_bytes_by older
         (lists sizes.now losses.now weights.now)
         (lists path_sizes.old path_losses.old path_weights.old) }
 {
@@ -138,7 +138,7 @@ pub fn build_by(
     path_weights: &mut [u8],
 ) -> PathResult
     ensures { outcome result (lists path_sizes.new path_losses.new path_weights.new)
-        ≡ buildBytesBy older
+        ≡ build_bytes_by older
         (lists sizes.now losses.now weights.now)
         (lists path_sizes.old path_losses.old path_weights.old) }
 {
@@ -168,7 +168,7 @@ pub fn build_by(
 
 // The answer of a refused selection.
 fn refuse_selection(refusal: u64) -> SelectResult
-    ensures { result ≡ selectRefused refusal }
+    ensures { result ≡ select_refused refusal }
 {
     SelectResult {
         refusal: refusal,
@@ -188,7 +188,7 @@ pub fn select(
     p: u64,
     q: u64,
 ) -> SelectResult
-    ensures { result ≡ selectBytesOf (lists sizes.now losses.now weights.now) entries p q }
+    ensures { result ≡ select_bytes_of (lists sizes.now losses.now weights.now) entries p q }
 {
     if sizes.len() % 2 + losses.len() % 8 + weights.len() % 2 != 0 {
         return refuse_selection(11);
@@ -228,10 +228,10 @@ fn breakpoints_whole(
     numerators: &mut [u8],
     denominators: &mut [u8],
 ) -> BreakpointsResult
-    requires { modelsCoding.spare (lists sizes.now losses.now weights.now)
-        + fractionsCoding.spare (fractions numerators.old denominators.old) ≡ 0 }
+    requires { models_coding.spare (lists sizes.now losses.now weights.now)
+        + fractions_coding.spare (fractions numerators.old denominators.old) ≡ 0 }
     ensures { outcome result (fractions numerators.new denominators.new)
-        ≡ breakpointsEncoded (lists sizes.now losses.now weights.now) entries
+        ≡ breakpoints_encoded (lists sizes.now losses.now weights.now) entries
         (fractions numerators.old denominators.old) }
 {
     let valid = entries::valid_path(sizes, losses, weights, entries);
@@ -262,7 +262,7 @@ pub fn breakpoints(
     denominators: &mut [u8],
 ) -> BreakpointsResult
     ensures { outcome result (fractions numerators.new denominators.new)
-        ≡ breakpointsBytesOf (lists sizes.now losses.now weights.now) entries
+        ≡ breakpoints_bytes_of (lists sizes.now losses.now weights.now) entries
         (fractions numerators.old denominators.old) }
 {
     let spare = sizes.len() % 2 + losses.len() % 8 + weights.len() % 2;

@@ -5,84 +5,84 @@ use Prim.Native.Nat.{ℕ, ◌≤◌, min}
 use native.Mathlib.Omega.{arith}
 use lib.ListN.{length, replicate}
 use Rattle.coding.specs.Coding.{Outcome, outcome, signeds}
-use Rattle.coding.proofs.Cutting.{Cutting, firstSigneds, allRaw, ◌⊠◌, namedCut}
-use Rattle.coding.proofs.Models.{modelsCut}
+use Rattle.coding.proofs.Cutting.{Cutting, first_signeds, all_raw, ◌⊠◌, named_cut}
+use Rattle.coding.proofs.Models.{models_cut}
 use Rattle.coding.proofs.Calls.{longer, Cut, cut_by, told}
-use Rattle.path.specs.Refusal.{Check, check, refusalOf}
+use Rattle.path.specs.Refusal.{Check, check, refusal_of}
 use Rattle.path.proofs.Cuts.{leb-take}
-use Rattle.segment.specs.Segment.{maxSamples}
-use Rattle.least.specs.Segmentation.{maxSegments}
+use Rattle.segment.specs.Segment.{max_samples}
+use Rattle.least.specs.Segmentation.{max_segments}
 use Rattle.least.proofs.Counts.{count_most}
-use Rattle.weights.specs.Weights.{weightChecks}
+use Rattle.weights.specs.Weights.{weight_checks}
 use Rattle.weights.specs.Inner.{folded}
-use Rattle.signal.specs.Signal.{sizeCount, placeCount, leastLosses, signalPath}
-use Rattle.signal.specs.SignalPath.{PathBuffers, pathBuffers, pathRooms, validLen, room_check, signalPathChecks, signalPathRefused, SignalPathOutcome, signalPathLeft, signalPathOf}
+use Rattle.signal.specs.Signal.{size_count, place_count, least_losses, signal_path}
+use Rattle.signal.specs.SignalPath.{PathBuffers, path_buffers, path_rooms, valid_len, room_check, signal_path_checks, signal_path_refused, SignalPathOutcome, signal_path_left, signal_path_of}
 use Rattle.signal.specs.declared.SignalPathResult.{SignalPathResult}
 use Rattle.signal.proofs.Inputs.{path-solvable}
-use Rattle.byte_signals.specs.Signals.{SignalNumbers, signalNumbers, signalStringNames, signalNumberNames, signalCoding, pathNames, pathCoding, signalPathAnswers, signalPathTold, signalPathCall}
-use Rattle.byte_signals.specs.Inner.{readSamples}
+use Rattle.byte_signals.specs.Signals.{SignalNumbers, signal_numbers, signal_string_names, signal_number_names, signal_coding, path_names, path_coding, signal_path_answers, signal_path_told, signal_path_call}
+use Rattle.byte_signals.specs.Inner.{read_samples}
 use Rattle.byte_signals.proofs.SignalCuts.{few-samples, input-cut, filled-cut}
-use Rattle.byte_signals.proofs.WeightCuts.{weightsCut, weighed-cut, accepted-weights}
+use Rattle.byte_signals.proofs.WeightCuts.{weights_cut, weighed-cut, accepted-weights}
 
-abbrev pub samplesCut : Cutting signeds
-samplesCut = firstSigneds readSamples
+abbrev pub samples_cut : Cutting signeds
+samples_cut = first_signeds read_samples
 
-abbrev pub signalCut : Cutting signalCoding
-signalCut = namedCut signalStringNames signalNumberNames (samplesCut ⊠ weightsCut)
+abbrev pub signal_cut : Cutting signal_coding
+signal_cut = named_cut signal_string_names signal_number_names (samples_cut ⊠ weights_cut)
 
 -- What an accepted call reads is not cut.
-pub few-read : (x : SignalNumbers) → length x.samples ≤ maxSamples → folded maxSegments x.weights ≡ x.weights → signalCut.taken x ≡ x
-few-read x few same = λ i. signalNumbers (few-samples x.samples few i) (same i)
+pub few-read : (x : SignalNumbers) → length x.samples ≤ max_samples → folded max_segments x.weights ≡ x.weights → signal_cut.taken x ≡ x
+few-read x few same = λ i. signal_numbers (few-samples x.samples few i) (same i)
 
-abbrev pub pathCut : Cutting pathCoding
-pathCut = namedCut pathNames pathNames (modelsCut maxSegments ⊠ allRaw)
+abbrev pub path_cut : Cutting path_coding
+path_cut = named_cut path_names path_names (models_cut max_segments ⊠ all_raw)
 
 module _ (limit d : ℕ) where
   abbrev checks : SignalNumbers → PathBuffers → List Check
-  checks x b = signalPathChecks (length x.samples) limit d x.weights (pathRooms b) (length b.scratch)
+  checks x b = signal_path_checks (length x.samples) limit d x.weights (path_rooms b) (length b.scratch)
 
   abbrev accepted : SignalNumbers → PathBuffers → SignalPathOutcome
   accepted x b =
-      signalPathLeft (signalPath x.samples d x.weights (sizeCount x.samples limit d)) (placeCount x.samples limit) b
+      signal_path_left (signal_path x.samples d x.weights (size_count x.samples limit d)) (place_count x.samples limit) b
 
   abbrev left : SignalNumbers → PathBuffers → Outcome SignalPathResult PathBuffers
-  left x b = signalPathTold (accepted x b)
+  left x b = signal_path_told (accepted x b)
 
   abbrev cutLeft : SignalNumbers → PathBuffers → Outcome SignalPathResult PathBuffers
-  cutLeft y b = longer signalCut pathCut signalPathAnswers b (left y (pathCut.taken b))
+  cutLeft y b = longer signal_cut path_cut signal_path_answers b (left y (path_cut.taken b))
 
   abbrev rooms : ℕ → PathBuffers → List Check
-  rooms n b = room_check (min limit n) (pathRooms b) (length b.scratch) ∷ []
+  rooms n b = room_check (min limit n) (path_rooms b) (length b.scratch) ∷ []
 
-  checks-cut : (x : SignalNumbers) (b : PathBuffers) → refusalOf (checks (signalCut.taken x) (pathCut.taken b)) ≡ refusalOf (checks x b)
+  checks-cut : (x : SignalNumbers) (b : PathBuffers) → refusal_of (checks (signal_cut.taken x) (path_cut.taken b)) ≡ refusal_of (checks x b)
   checks-cut x b =
-      input-cut x.samples maxSegments limit
-      (λ n. check 13 (validLen n d) ∷ (weightChecks (folded maxSegments x.weights) limit ++ rooms n (pathCut.taken b)))
-      (λ n. check 13 (validLen n d) ∷ (weightChecks x.weights limit ++ rooms n b))
-      (λ h n. weighed-cut n limit d x.weights (rooms n (pathCut.taken b)) (rooms n b) h (rooms-cut n h))
+      input-cut x.samples max_segments limit
+      (λ n. check 13 (valid_len n d) ∷ (weight_checks (folded max_segments x.weights) limit ++ rooms n (path_cut.taken b)))
+      (λ n. check 13 (valid_len n d) ∷ (weight_checks x.weights limit ++ rooms n b))
+      (λ h n. weighed-cut n limit d x.weights (rooms n (path_cut.taken b)) (rooms n b) h (rooms-cut n h))
     where
-      rooms-cut : (n : ℕ) → limit ≤ maxSegments → refusalOf (rooms n (pathCut.taken b)) ≡ refusalOf (rooms n b)
+      rooms-cut : (n : ℕ) → limit ≤ max_segments → refusal_of (rooms n (path_cut.taken b)) ≡ refusal_of (rooms n b)
       rooms-cut n h =
           rw (
-            leb-take (min limit n) maxSegments b.lists.sizes (omega arith),
-            leb-take (min limit n) maxSegments b.lists.losses (omega arith),
-            leb-take (min limit n) maxSegments b.lists.weights (omega arith),
+            leb-take (min limit n) max_segments b.lists.sizes (omega arith),
+            leb-take (min limit n) max_segments b.lists.losses (omega arith),
+            leb-take (min limit n) max_segments b.lists.weights (omega arith),
           )
 
-  left_cut : (x : SignalNumbers) (b : PathBuffers) → refusalOf (checks x b) ≡ 0 → left x b ≡ cutLeft (signalCut.taken x) b
+  left_cut : (x : SignalNumbers) (b : PathBuffers) → refusal_of (checks x b) ≡ 0 → left x b ≡ cutLeft (signal_cut.taken x) b
   left_cut x b e =
       let xs = x.samples in
       let ws = x.weights in
       let ok = path-solvable xs limit d ws b e in
-      let k = sizeCount xs limit d in
+      let k = size_count xs limit d in
       let most = count_most (length xs) d limit k refl in
-      let filled = filled-cut ws (leastLosses xs d) k (placeCount xs limit) maxSegments most (omega (arith, ok.few)) b.lists in
+      let filled = filled-cut ws (least_losses xs d) k (place_count xs limit) max_segments most (omega (arith, ok.few)) b.lists in
       subst (λ (y : SignalNumbers). left x b ≡ cutLeft y b) (sym (few-read x ok.short (accepted-weights (length xs) limit d ws (rooms (length xs) b) e)))
-      (λ i. outcome record { refusal = 0; entries = length (signalPath xs d ws k) } (pathBuffers (filled i) (replicate (length b.scratch) 0)))
+      (λ i. outcome record { refusal = 0; entries = length (signal_path xs d ws k) } (path_buffers (filled i) (replicate (length b.scratch) 0)))
 
-  pub signal-path-cut : (x : SignalNumbers) (b : PathBuffers) → Cut signalCut pathCut signalPathAnswers (signalPathCall limit d) x b
-  unfolding signalPathOf
+  pub signal-path-cut : (x : SignalNumbers) (b : PathBuffers) → Cut signal_cut path_cut signal_path_answers (signal_path_call limit d) x b
+  unfolding signal_path_of
   signal-path-cut x b =
-      cut_by signalCut pathCut signalPathAnswers (signalPathCall limit d) checks left
-      (λ x b. told signalPathTold (checks x b) (signalPathRefused b) (accepted x b))
+      cut_by signal_cut path_cut signal_path_answers (signal_path_call limit d) checks left
+      (λ x b. told signal_path_told (checks x b) (signal_path_refused b) (accepted x b))
       (λ x b. refl) x b (checks-cut x b) (left_cut x b)

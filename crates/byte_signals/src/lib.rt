@@ -5,12 +5,12 @@ ghost use Rattle.std.specs.Prelude.{◌≡◌, ◌/◌, min, length, drop};
 ghost use Rattle.coding.specs.Coding.{outcome};
 ghost use Rattle.layout.specs.Items.{items_of};
 ghost use Rattle.path.specs.Model.{lists};
-ghost use Rattle.weights.specs.Weights.{allInRange};
+ghost use Rattle.weights.specs.Weights.{all_in_range};
 ghost use Rattle.weights.specs.Inner.{folded};
-ghost use Rattle.least.specs.Segmentation.{maxSegments};
-ghost use Rattle.signal.specs.SignalPath.{pathBuffers};
-ghost use Rattle.byte_signals.specs.Signals.{signalStrings, signalPathBytesOf, splitStrings, splitBytesOf};
-ghost use Rattle.byte_signals.specs.Inner.{readWeights, PathFits, SplitFits};
+ghost use Rattle.least.specs.Segmentation.{max_segments};
+ghost use Rattle.signal.specs.SignalPath.{path_buffers};
+ghost use Rattle.byte_signals.specs.Signals.{signal_strings, signal_path_bytes_of, split_strings, split_bytes_of};
+ghost use Rattle.byte_signals.specs.Inner.{read_weights, PathFits, SplitFits};
 
 use coding::{encode_models, encode_segments, read_models, read_segments};
 use layout::{get, read_i16s, read_items};
@@ -26,7 +26,7 @@ const READ_WEIGHTS: usize = MAX_SEGMENTS + 1;
 
 // Whether the weights after the first 32 are in range.
 fn rest_in_range(weights: &[u8]) -> bool
-    ensures { result ≡ allInRange (drop maxSegments (items_of 2 weights.now)) }
+    ensures { result ≡ all_in_range (drop max_segments (items_of 2 weights.now)) }
 {
     let count = weights.len() / 2;
     let mut i = MAX_SEGMENTS;
@@ -42,8 +42,8 @@ fn rest_in_range(weights: &[u8]) -> bool
 // Reads the first weights, 33 at most, and looks at all. Where one after the first 32 is out of range, the last one read is 0, so that
 // those read are refused as all of them are.
 fn read_weights(weights: &[u8], items: &mut [u64])
-    requires { length items.old ≡ min (length weights.now / 2) readWeights }
-    ensures { items.new ≡ folded maxSegments (items_of 2 weights.now) }
+    requires { length items.old ≡ min (length weights.now / 2) read_weights }
+    ensures { items.new ≡ folded max_segments (items_of 2 weights.now) }
 {
     read_items(weights, 2, items);
     if items.len() <= MAX_SEGMENTS {
@@ -71,16 +71,16 @@ fn path_items(
     path_weight_items: &mut [u64],
 ) -> SignalPathResult
     requires { PathFits
-        (signalStrings samples.now weights.now)
-        (pathBuffers (lists path_sizes.old path_losses.old path_weights.old) scratch.old)
+        (signal_strings samples.now weights.now)
+        (path_buffers (lists path_sizes.old path_losses.old path_weights.old) scratch.old)
         (length sample_items.old) (length weight_items.old)
         (length size_items.old) (length loss_items.old) (length path_weight_items.old) }
     ensures { outcome result
-        (pathBuffers
+        (path_buffers
         (lists path_sizes.new path_losses.new path_weights.new)
         scratch.new)
-        ≡ signalPathBytesOf (signalStrings samples.now weights.now) max_segments min_segment_len
-        (pathBuffers
+        ≡ signal_path_bytes_of (signal_strings samples.now weights.now) max_segments min_segment_len
+        (path_buffers
         (lists path_sizes.old path_losses.old path_weights.old)
         scratch.old) }
 {
@@ -129,11 +129,11 @@ pub fn signal_path(
     scratch: &mut [u8],
 ) -> SignalPathResult
     ensures { outcome result
-        (pathBuffers
+        (path_buffers
         (lists path_sizes.new path_losses.new path_weights.new)
         scratch.new)
-        ≡ signalPathBytesOf (signalStrings samples.now weights.now) max_segments min_segment_len
-        (pathBuffers
+        ≡ signal_path_bytes_of (signal_strings samples.now weights.now) max_segments min_segment_len
+        (path_buffers
         (lists path_sizes.old path_losses.old path_weights.old)
         scratch.old) }
 {
@@ -198,18 +198,18 @@ fn split_items(
     path_weight_items: &mut [u64],
 ) -> SplitResult
     requires { SplitFits
-        (signalStrings samples.now weights.now)
-        (splitStrings starts.old levels.old (lists path_sizes.old path_losses.old path_weights.old) scratch.old)
+        (signal_strings samples.now weights.now)
+        (split_strings starts.old levels.old (lists path_sizes.old path_losses.old path_weights.old) scratch.old)
         (length sample_items.old) (length weight_items.old)
         (length start_items.old) (length level_items.old)
         (length size_items.old) (length loss_items.old) (length path_weight_items.old) }
     ensures { outcome result
-        (splitStrings
+        (split_strings
         starts.new levels.new
         (lists path_sizes.new path_losses.new path_weights.new)
         scratch.new)
-        ≡ splitBytesOf (signalStrings samples.now weights.now) max_segments min_segment_len p q
-        (splitStrings
+        ≡ split_bytes_of (signal_strings samples.now weights.now) max_segments min_segment_len p q
+        (split_strings
         starts.old levels.old
         (lists path_sizes.old path_losses.old path_weights.old)
         scratch.old) }
@@ -269,12 +269,12 @@ pub fn split(
     scratch: &mut [u8],
 ) -> SplitResult
     ensures { outcome result
-        (splitStrings
+        (split_strings
         starts.new levels.new
         (lists path_sizes.new path_losses.new path_weights.new)
         scratch.new)
-        ≡ splitBytesOf (signalStrings samples.now weights.now) max_segments min_segment_len p q
-        (splitStrings
+        ≡ split_bytes_of (signal_strings samples.now weights.now) max_segments min_segment_len p q
+        (split_strings
         starts.old levels.old
         (lists path_sizes.old path_losses.old path_weights.old)
         scratch.old) }

@@ -4,8 +4,8 @@
 ghost use Rattle.std.specs.Prelude.{◌≡◌, length};
 ghost use Rattle.coding.specs.Coding.{outcome};
 ghost use Rattle.path.specs.Model.{lists};
-ghost use Rattle.stream.specs.Extend.{streamBuffers};
-ghost use Rattle.byte_streams.specs.Streams.{extendBytesOf, segmentStrings, splitFromBytesOf};
+ghost use Rattle.stream.specs.Extend.{stream_buffers};
+ghost use Rattle.byte_streams.specs.Streams.{extend_bytes_of, segment_strings, split_from_bytes_of};
 ghost use Rattle.byte_streams.specs.Inner.{ExtendFits, SplitFromFits};
 
 use byte_signals::READ_SAMPLES;
@@ -29,15 +29,15 @@ fn extend_items(
     path_weight_items: &mut [u64],
 ) -> ExtendResult
     requires { ExtendFits
-        samples.now (streamBuffers table.old (lists path_sizes.old path_losses.old path_weights.old))
+        samples.now (stream_buffers table.old (lists path_sizes.old path_losses.old path_weights.old))
         (length sample_items.old)
         (length size_items.old) (length loss_items.old) (length path_weight_items.old) }
     ensures { outcome result
-        (streamBuffers
+        (stream_buffers
         table.new
         (lists path_sizes.new path_losses.new path_weights.new))
-        ≡ extendBytesOf samples.now sample max_segments
-        (streamBuffers
+        ≡ extend_bytes_of samples.now sample max_segments
+        (stream_buffers
         table.old
         (lists path_sizes.old path_losses.old path_weights.old)) }
 {
@@ -82,11 +82,11 @@ pub fn extend(
     path_weights: &mut [u8],
 ) -> ExtendResult
     ensures { outcome result
-        (streamBuffers
+        (stream_buffers
         table.new
         (lists path_sizes.new path_losses.new path_weights.new))
-        ≡ extendBytesOf samples.now sample max_segments
-        (streamBuffers
+        ≡ extend_bytes_of samples.now sample max_segments
+        (stream_buffers
         table.old
         (lists path_sizes.old path_losses.old path_weights.old)) }
 {
@@ -137,11 +137,11 @@ fn split_from_items(
     level_items: &mut [i16],
 ) -> SplitFromResult
     requires { SplitFromFits
-        samples.now (segmentStrings starts.old levels.old)
+        samples.now (segment_strings starts.old levels.old)
         (length sample_items.old) (length start_items.old) (length level_items.old) }
-    ensures { outcome result (segmentStrings starts.new levels.new)
-        ≡ splitFromBytesOf samples.now max_segments p q table.now
-        (segmentStrings starts.old levels.old) }
+    ensures { outcome result (segment_strings starts.new levels.new)
+        ≡ split_from_bytes_of samples.now max_segments p q table.now
+        (segment_strings starts.old levels.old) }
 {
     read_i16s(samples, sample_items);
     read_segments(starts, levels, start_items, level_items);
@@ -168,9 +168,9 @@ pub fn split_from(
     starts: &mut [u8],
     levels: &mut [u8],
 ) -> SplitFromResult
-    ensures { outcome result (segmentStrings starts.new levels.new)
-        ≡ splitFromBytesOf samples.now max_segments p q table.now
-        (segmentStrings starts.old levels.old) }
+    ensures { outcome result (segment_strings starts.new levels.new)
+        ≡ split_from_bytes_of samples.now max_segments p q table.now
+        (segment_strings starts.old levels.old) }
 {
     if samples.len() % 2 + starts.len() % 2 + levels.len() % 2 != 0 {
         return SplitFromResult {

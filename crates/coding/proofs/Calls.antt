@@ -8,10 +8,10 @@ use Prim.Native.Nat.{ℕ, ◌+◌}
 use native.Mathlib.Omega.{arith}
 use lib.Dec.{eqb}
 use borrow.Author.Tests.{eqb-false, ne_eqb}
-use Rattle.path.specs.Refusal.{Check, check, refusalOf, byChecks}
+use Rattle.path.specs.Refusal.{Check, check, refusal_of, by_checks}
 use Rattle.path.proofs.Checks.{check-fails, last-passes, refuses, accepts}
 use Rattle.path.proofs.Cuts.{by-checks-cut}
-use Rattle.coding.specs.Coding.{Outcome, outcome, Answers, Coding, encodedOver, onBytes}
+use Rattle.coding.specs.Coding.{Outcome, outcome, Answers, Coding, encoded_over, on_bytes}
 use Rattle.coding.proofs.Cutting.{Cutting, nothing_left}
 
 -- A call of what it only reads, coded by C, and of its buffers, coded by D, on the strings s and b.
@@ -20,19 +20,19 @@ module _ {A : Type 0} (C D : Coding) (a : Answers A) (call : C.Numbers → D.Num
   checked = check 11 (eqb (C.spare s + D.spare b) 0) ∷ []
 
   abbrev made : Outcome A D.Strings
-  made = encodedOver D a b (call (C.numbers s) (D.numbers b))
+  made = encoded_over D a b (call (C.numbers s) (D.numbers b))
 
   -- Bytes left over are refused under 11.
-  pub eleven : (C.spare s + D.spare b ≡ 0 → ⊥) → outcome (a.refused 11) b ≡ onBytes C D a call s b
-  unfolding onBytes
+  pub eleven : (C.spare s + D.spare b ≡ 0 → ⊥) → outcome (a.refused 11) b ≡ on_bytes C D a call s b
+  unfolding on_bytes
   eleven h =
       refuses checked (λ n. outcome (a.refused n) b) made 11
       (sym (check-fails (check 11 (eqb (C.spare s + D.spare b) 0)) [] (ne_eqb (C.spare s + D.spare b) 0 h)))
       (λ z. omega arith)
 
   -- With none left over it is the call on numbers.
-  pub whole-strings : C.spare s + D.spare b ≡ 0 → made ≡ onBytes C D a call s b
-  unfolding onBytes
+  pub whole-strings : C.spare s + D.spare b ≡ 0 → made ≡ on_bytes C D a call s b
+  unfolding on_bytes
   whole-strings h =
       accepts checked (λ n. outcome (a.refused n) b) made
       (last-passes (check 11 (eqb (C.spare s + D.spare b) 0)) (ap (λ (n : ℕ). eqb n 0) h))
@@ -40,33 +40,33 @@ module _ {A : Type 0} (C D : Coding) (a : Answers A) (call : C.Numbers → D.Num
 -- What a call on the numbers leaves, o, as a call that works on the bytes leaves it: the strings as they were, or the bytes of the
 -- buffers.
 module _ {A : Type 0} (D : Coding) (a : Answers A) (b : D.Strings) (o : Outcome A D.Numbers) where
-  pub encoded-refused : (n : ℕ) → (n ≡ 0 → ⊥) → (xs : D.Numbers) → outcome (a.refused n) xs ≡ o → outcome (a.refused n) b ≡ encodedOver D a b o
+  pub encoded-refused : (n : ℕ) → (n ≡ 0 → ⊥) → (xs : D.Numbers) → outcome (a.refused n) xs ≡ o → outcome (a.refused n) b ≡ encoded_over D a b o
   encoded-refused n h xs e =
       let fails : eqb (a.number (a.refused n)) 0 ≡ false = ap (λ (k : ℕ). eqb k 0) (a.numbered n) ∙ ne_eqb n 0 h in
-      (λ i. outcome (a.refused n) (cond (sym fails i) (D.bytes xs) b)) ∙ ap (encodedOver D a b) e
+      (λ i. outcome (a.refused n) (cond (sym fails i) (D.bytes xs) b)) ∙ ap (encoded_over D a b) e
 
-  pub encoded-accepted : (r : A) → a.number r ≡ 0 → (xs : D.Numbers) → outcome r xs ≡ o → (y : D.Strings) → y ≡ D.bytes xs → outcome r y ≡ encodedOver D a b o
+  pub encoded-accepted : (r : A) → a.number r ≡ 0 → (xs : D.Numbers) → outcome r xs ≡ o → (y : D.Strings) → y ≡ D.bytes xs → outcome r y ≡ encoded_over D a b o
   encoded-accepted r z xs e y f =
       let holds : eqb (a.number r) 0 ≡ true = ap (λ (k : ℕ). eqb k 0) z in
-      (λ i. outcome r (f i)) ∙ (λ i. outcome r (cond (sym holds i) (D.bytes xs) b)) ∙ ap (encodedOver D a b) e
+      (λ i. outcome r (f i)) ∙ (λ i. outcome r (cond (sym holds i) (D.bytes xs) b)) ∙ ap (encoded_over D a b) e
 
 -- What a call leaves by its checks, told in other words.
 pub told : {O A : Type 0} (f : O → A) (checks : List Check) (refused : ℕ → O) (accepted : O)
-    → f (byChecks checks refused accepted) ≡ byChecks checks (λ n. f (refused n)) (f accepted)
-unfolding byChecks
-told f checks refused accepted = by-test (eqb (refusalOf checks) 0)
+    → f (by_checks checks refused accepted) ≡ by_checks checks (λ n. f (refused n)) (f accepted)
+unfolding by_checks
+told f checks refused accepted = by-test (eqb (refusal_of checks) 0)
   where
-    by-test : (t : Bool) → f (cond t accepted (refused (refusalOf checks))) ≡ cond t (f accepted) (f (refused (refusalOf checks)))
+    by-test : (t : Bool) → f (cond t accepted (refused (refusal_of checks))) ≡ cond t (f accepted) (f (refused (refusal_of checks)))
     by-test true = refl
     by-test false = refl
 
 -- A call by its checks keeps its buffers where it is refused.
 refused-keeps : {A B : Type 0} (a : Answers A) (checks : List Check) (accepted : Outcome A B) (b : B) → a.number accepted.answer ≡ 0
-    → (let o = byChecks checks (λ n. outcome (a.refused n) b) accepted in (a.number o.answer ≡ 0 → ⊥) → o.buffers ≡ b)
-unfolding byChecks
-refused-keeps a checks accepted b ok = by-test (eqb (refusalOf checks) 0)
+    → (let o = by_checks checks (λ n. outcome (a.refused n) b) accepted in (a.number o.answer ≡ 0 → ⊥) → o.buffers ≡ b)
+unfolding by_checks
+refused-keeps a checks accepted b ok = by-test (eqb (refusal_of checks) 0)
   where
-    by-test : (t : Bool) → (let o = cond t accepted (outcome (a.refused (refusalOf checks)) b) in (a.number o.answer ≡ 0 → ⊥) → o.buffers ≡ b)
+    by-test : (t : Bool) → (let o = cond t accepted (outcome (a.refused (refusal_of checks)) b) in (a.number o.answer ≡ 0 → ⊥) → o.buffers ≡ b)
     by-test true h = absurd (h ok)
     by-test false h = refl
 
@@ -83,10 +83,10 @@ module _ {A : Type 0} {C D : Coding} (P : Cutting C) (Q : Cutting D) (a : Answer
   module _ (call : C.Numbers → D.Numbers → Outcome A D.Numbers) where
     -- A call by its checks does if these say the same of the first items, and if what is left where they pass is left there.
     pub cut_by : (checks : C.Numbers → D.Numbers → List Check) (accepted : C.Numbers → D.Numbers → Outcome A D.Numbers)
-        → ((xs : C.Numbers) (b : D.Numbers) → call xs b ≡ byChecks (checks xs b) (λ n. outcome (a.refused n) b) (accepted xs b))
+        → ((xs : C.Numbers) (b : D.Numbers) → call xs b ≡ by_checks (checks xs b) (λ n. outcome (a.refused n) b) (accepted xs b))
         → ((xs : C.Numbers) (b : D.Numbers) → a.number (accepted xs b).answer ≡ 0)
-        → (xs : C.Numbers) (b : D.Numbers) → refusalOf (checks (P.taken xs) (Q.taken b)) ≡ refusalOf (checks xs b)
-        → (refusalOf (checks xs b) ≡ 0 → accepted xs b ≡ longer b (accepted (P.taken xs) (Q.taken b))) → Cut call xs b
+        → (xs : C.Numbers) (b : D.Numbers) → refusal_of (checks (P.taken xs) (Q.taken b)) ≡ refusal_of (checks xs b)
+        → (refusal_of (checks xs b) ≡ 0 → accepted xs b ≡ longer b (accepted (P.taken xs) (Q.taken b))) → Cut call xs b
     cut_by checks accepted is zero xs b same-checks same_left =
         let ys = P.taken xs in
         let d = Q.taken b in
@@ -123,29 +123,29 @@ module _ {A : Type 0} {C D : Coding} (P : Cutting C) (Q : Cutting D) (a : Answer
           ap (Q.left false b) same ∙ Q.stays b
 
       -- That is the call over the strings.
-      pub returned : (final : D.Strings) → final ≡ Q.left (eqb (a.number answer) 0) b after → outcome answer final ≡ onBytes C D a call s b
+      pub returned : (final : D.Strings) → final ≡ Q.left (eqb (a.number answer) 0) b after → outcome answer final ≡ on_bytes C D a call s b
       returned final e =
           (λ i. outcome answer ((e ∙ by-refusal (eqb (a.number answer) 0) (eqb-false (a.number answer) 0)) i))
-          ∙ (λ i. encodedOver D a b (longer (D.numbers b) (on-front i)))
-          ∙ ap (encodedOver D a b) (sym c.cut)
+          ∙ (λ i. encoded_over D a b (longer (D.numbers b) (on-front i)))
+          ∙ ap (encoded_over D a b) (sym c.cut)
           ∙ whole-strings C D a call s b whole
 
 -- A call that was made in other lists than the buffers, and answered as the call on the numbers does.
 module _ {A : Type 0} (C D : Coding) (a : Answers A) (call : C.Numbers → D.Numbers → Outcome A D.Numbers) (s : C.Strings) (b : D.Strings)
     (whole : C.spare s + D.spare b ≡ 0) (answer : A) where
   -- Where it is refused, the strings stay.
-  pub strings-stay : (a.number answer ≡ 0 → ⊥) → outcome answer (D.numbers b) ≡ call (C.numbers s) (D.numbers b) → outcome answer b ≡ onBytes C D a call s b
+  pub strings-stay : (a.number answer ≡ 0 → ⊥) → outcome answer (D.numbers b) ≡ call (C.numbers s) (D.numbers b) → outcome answer b ≡ on_bytes C D a call s b
   strings-stay h is =
       let e = ne_eqb (a.number answer) 0 h in
-      (λ i. outcome answer (cond (sym e i) (D.bytes (D.numbers b)) b)) ∙ ap (encodedOver D a b) is ∙ whole-strings C D a call s b whole
+      (λ i. outcome answer (cond (sym e i) (D.bytes (D.numbers b)) b)) ∙ ap (encoded_over D a b) is ∙ whole-strings C D a call s b whole
 
   -- Where it is accepted, what it leaves is written over their front.
   pub strings-written : a.number answer ≡ 0 → D.Held b → (Q : Cutting D) (after : D.Numbers)
       → outcome answer (Q.rejoined (D.numbers b) after) ≡ call (C.numbers s) (D.numbers b)
-      → Q.Fits b after → (final : D.Strings) → final ≡ Q.left true b after → outcome answer final ≡ onBytes C D a call s b
+      → Q.Fits b after → (final : D.Strings) → final ≡ Q.left true b after → outcome answer final ≡ on_bytes C D a call s b
   strings-written z held Q after is fits final e =
       let written = e ∙ Q.writes b held (nothing_left (C.spare s) (D.spare b) whole).1 after fits in
       (λ i. outcome answer (written i))
       ∙ (λ i. outcome answer (cond (eqb (sym z i) 0) (D.bytes (Q.rejoined (D.numbers b) after)) b))
-      ∙ ap (encodedOver D a b) is
+      ∙ ap (encoded_over D a b) is
       ∙ whole-strings C D a call s b whole

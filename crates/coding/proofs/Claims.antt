@@ -8,7 +8,7 @@ use native.Mathlib.Nat.{eq-zero-or-pos}
 use native.Mathlib.Omega.{arith}
 use lib.Dec.{eqb}
 use borrow.Author.Tests.{eqb-false, eq-eqb}
-use Rattle.coding.specs.Coding.{Outcome, outcome, Answers, Coding, encodedOver, onBytes}
+use Rattle.coding.specs.Coding.{Outcome, outcome, Answers, Coding, encoded_over, on_bytes}
 use Rattle.coding.proofs.Calls.{eleven, whole-strings}
 use Rattle.coding.proofs.Fitting.{Fitting}
 
@@ -30,16 +30,16 @@ module _ {A : Type 0} (C D : Coding) (a : Answers A) (call : C.Numbers → D.Num
   kept-encoded false f = ap D.bytes (sym (f refl))
 
   pub on-encoded : (F : Fitting D) → F.Fit xs → C.spare s ≡ 0 → ((a.number onNumbers.answer ≡ 0 → ⊥) → onNumbers.buffers ≡ xs)
-      → onBytes C D a call s (D.bytes xs) ≡ encoded D onNumbers
+      → on_bytes C D a call s (D.bytes xs) ≡ encoded D onNumbers
   on-encoded F fit whole keeps =
       let number = a.number onNumbers.answer in
       sym (whole-strings C D a call s (D.bytes xs) (omega (arith, F.none-spare xs)))
-      ∙ (λ i. encodedOver D a (D.bytes xs) (call (C.numbers s) (F.fit-back xs fit i)))
+      ∙ (λ i. encoded_over D a (D.bytes xs) (call (C.numbers s) (F.fit-back xs fit i)))
       ∙ (λ i. outcome onNumbers.answer (kept-encoded (eqb number 0) (λ h. keeps (eqb-false number 0 h)) i))
 
 -- A call over byte strings that is accepted.
 module _ {A : Type 0} (C D : Coding) (a : Answers A) (call : C.Numbers → D.Numbers → Outcome A D.Numbers) (s : C.Strings) (b : D.Strings)
-    (h : a.number (onBytes C D a call s b).answer ≡ 0)
+    (h : a.number (on_bytes C D a call s b).answer ≡ 0)
   where
     abbrev made : Outcome A D.Numbers
     made = call (C.numbers s) (D.numbers b)
@@ -59,9 +59,9 @@ module _ {A : Type 0} (C D : Coding) (a : Answers A) (call : C.Numbers → D.Num
     pub accepted-too : a.number made.answer ≡ 0
     accepted-too = ap (λ (o : Outcome A D.Strings). a.number o.answer) (whole-strings C D a call s b none-spare) ∙ h
 
-    pub accepted-encoded : encoded D made ≡ onBytes C D a call s b
+    pub accepted-encoded : encoded D made ≡ on_bytes C D a call s b
     accepted-encoded = (rw (eq-eqb (a.number made.answer) 0 accepted-too) refl) ∙ whole-strings C D a call s b none-spare
 
     -- Where what that leaves fits, its numbers are those of the strings.
-    pub accepted-decoded : (F : Fitting D) → F.Fit made.buffers → decoded D (onBytes C D a call s b) ≡ made
+    pub accepted-decoded : (F : Fitting D) → F.Fit made.buffers → decoded D (on_bytes C D a call s b) ≡ made
     accepted-decoded F f = ap (decoded D) (sym accepted-encoded) ∙ (λ i. outcome made.answer (F.fit-back made.buffers f i))

@@ -6,7 +6,7 @@ use mathlib.Core.List.{◌++◌, map}
 use Prim.Native.Nat.{ℕ, ◌+◌, ◌*◌, ◌/◌, min}
 use native.Mathlib.Omega.{arith}
 use lib.ListN.{length, take, drop, take-append-drop}
-use Rattle.layout.specs.Items.{itemsTo, bytes_of, signed_of, unsignedOf}
+use Rattle.layout.specs.Items.{items_to, bytes_of, signed_of, unsigned_of}
 use Rattle.coding.specs.Coding.{Coding, unsigneds, signeds, raw, ◌⊗◌, Names, named}
 use Rattle.coding.proofs.Strings.{items-read, items-joined, signeds-read, signeds-joined}
 
@@ -26,13 +26,13 @@ pub record Cutting (C : Coding) : Type 1 where
   pub stays : (b : C.Strings) → left false b (taken (C.numbers b)) ≡ b
 
 -- At most c items of k bytes.
-abbrev pub firstUnsigneds : (k c : ℕ) → Cutting (unsigneds k)
-firstUnsigneds k c =
+abbrev pub first_unsigneds : (k c : ℕ) → Cutting (unsigneds k)
+first_unsigneds k c =
     record {
       taken = take c;
       rejoined = λ xs front. front ++ drop c xs;
       Fits = λ b xs. length xs ≡ min (length b / k) c;
-      read = λ b xs. itemsTo k b (length xs);
+      read = λ b xs. items_to k b (length xs);
       left = λ t b xs. cond t (bytes_of k xs ++ drop (k * length xs) b) b;
       parts = λ xs. sym (take-append-drop c xs);
       reads = λ b xs h. items-read k c b (length xs) h;
@@ -41,14 +41,14 @@ firstUnsigneds k c =
     }
 
 -- At most c signed items.
-abbrev pub firstSigneds : (c : ℕ) → Cutting signeds
-firstSigneds c =
+abbrev pub first_signeds : (c : ℕ) → Cutting signeds
+first_signeds c =
     record {
       taken = take c;
       rejoined = λ xs front. front ++ drop c xs;
       Fits = λ b xs. length xs ≡ min (length b / 2) c;
-      read = λ b xs. map signed_of (itemsTo 2 b (length xs));
-      left = λ t b xs. cond t (bytes_of 2 (map unsignedOf xs) ++ drop (2 * length xs) b) b;
+      read = λ b xs. map signed_of (items_to 2 b (length xs));
+      left = λ t b xs. cond t (bytes_of 2 (map unsigned_of xs) ++ drop (2 * length xs) b) b;
       parts = λ xs. sym (take-append-drop c xs);
       reads = λ b xs h. signeds-read c b (length xs) h;
       writes = λ b held whole xs h. signeds-joined c b held whole xs (length xs) h;
@@ -56,8 +56,8 @@ firstSigneds c =
     }
 
 -- A string that is lent on as it is.
-abbrev pub allRaw : Cutting raw
-allRaw =
+abbrev pub all_raw : Cutting raw
+all_raw =
     record {
       taken = λ xs. xs;
       rejoined = λ xs front. front;
@@ -93,29 +93,29 @@ abbrev pub ◌⊠◌ : {C D : Coding} → Cutting C → Cutting D → Cutting (C
     }
 
 -- The same with names.
-abbrev pub namedCut : {S N : Type 0} {C : Coding} (f : Names S C.Strings) (g : Names N C.Numbers) → Cutting C → Cutting (named C f g)
-namedCut {S} {N} {C} f g P =
+abbrev pub named_cut : {S N : Type 0} {C : Coding} (f : Names S C.Strings) (g : Names N C.Numbers) → Cutting C → Cutting (named C f g)
+named_cut {S} {N} {C} f g P =
     record {
-      taken = λ xs. g.byName (P.taken (g.inOrder xs));
-      rejoined = λ xs front. g.byName (P.rejoined (g.inOrder xs) (g.inOrder front));
-      Fits = λ b xs. P.Fits (f.inOrder b) (g.inOrder xs);
-      read = λ b xs. g.byName (P.read (f.inOrder b) (g.inOrder xs));
-      left = λ t b xs. f.byName (P.left t (f.inOrder b) (g.inOrder xs));
+      taken = λ xs. g.by_name (P.taken (g.in_order xs));
+      rejoined = λ xs front. g.by_name (P.rejoined (g.in_order xs) (g.in_order front));
+      Fits = λ b xs. P.Fits (f.in_order b) (g.in_order xs);
+      read = λ b xs. g.by_name (P.read (f.in_order b) (g.in_order xs));
+      left = λ t b xs. f.by_name (P.left t (f.in_order b) (g.in_order xs));
       parts = λ xs.
           sym (g.same_names xs)
-          ∙ ap g.byName (P.parts (g.inOrder xs) ∙ ap (P.rejoined (g.inOrder xs)) (sym (g.same-order (P.taken (g.inOrder xs)))));
-      reads = λ b xs h. ap g.byName (P.reads (f.inOrder b) (g.inOrder xs) h ∙ ap P.taken (sym (g.same-order (C.numbers (f.inOrder b)))));
+          ∙ ap g.by_name (P.parts (g.in_order xs) ∙ ap (P.rejoined (g.in_order xs)) (sym (g.same_order (P.taken (g.in_order xs)))));
+      reads = λ b xs h. ap g.by_name (P.reads (f.in_order b) (g.in_order xs) h ∙ ap P.taken (sym (g.same_order (C.numbers (f.in_order b)))));
       writes = λ b held whole xs h.
-          let ys = C.numbers (f.inOrder b) in
-          let zs = g.inOrder xs in
-          ap f.byName
-          (P.writes (f.inOrder b) held whole zs h
-          ∙ ap (λ (y : C.Numbers). C.bytes (P.rejoined y zs)) (sym (g.same-order ys))
-          ∙ ap C.bytes (sym (g.same-order (P.rejoined (g.inOrder (g.byName ys)) zs))));
+          let ys = C.numbers (f.in_order b) in
+          let zs = g.in_order xs in
+          ap f.by_name
+          (P.writes (f.in_order b) held whole zs h
+          ∙ ap (λ (y : C.Numbers). C.bytes (P.rejoined y zs)) (sym (g.same_order ys))
+          ∙ ap C.bytes (sym (g.same_order (P.rejoined (g.in_order (g.by_name ys)) zs))));
       stays = λ b.
-          let ys = C.numbers (f.inOrder b) in
-          ap (λ (y : C.Numbers). f.byName (P.left false (f.inOrder b) y))
-          (g.same-order (P.taken (g.inOrder (g.byName ys))) ∙ ap P.taken (g.same-order ys))
-          ∙ ap f.byName (P.stays (f.inOrder b))
+          let ys = C.numbers (f.in_order b) in
+          ap (λ (y : C.Numbers). f.by_name (P.left false (f.in_order b) y))
+          (g.same_order (P.taken (g.in_order (g.by_name ys))) ∙ ap P.taken (g.same_order ys))
+          ∙ ap f.by_name (P.stays (f.in_order b))
           ∙ f.same_names b;
     }

@@ -8,7 +8,7 @@ use native.Mathlib.Omega.{arith}
 use lib.IntN.{ℤ}
 use lib.ListN.{length}
 use lib.Signed.{mag}
-use Rattle.layout.specs.Items.{Bytes, itemsTo, items_of, bytes_of, signed_of, unsignedOf}
+use Rattle.layout.specs.Items.{Bytes, items_to, items_of, bytes_of, signed_of, unsigned_of}
 use Rattle.layout.proofs.ItemLists.{length-bytes, items-low}
 use Rattle.layout.proofs.ItemLists as items
 use Rattle.layout.proofs.Signs.{mag-signed, unsigned_small, signed-unsigned}
@@ -31,8 +31,8 @@ module _ (k : ℕ) (some : 0 < k) where
 
   pub numbers-back : (xs : List ℕ) → Small (256 ^ k) xs → items_of k (bytes_of k xs) ≡ xs
   numbers-back xs f =
-      ap (λ (n : ℕ). itemsTo k (bytes_of k xs) (n / k)) (length-bytes k xs)
-      ∙ ap (itemsTo k (bytes_of k xs)) (mul-div_right (length xs) some)
+      ap (λ (n : ℕ). items_to k (bytes_of k xs) (n / k)) (length-bytes k xs)
+      ∙ ap (items_to k (bytes_of k xs)) (mul-div_right (length xs) some)
       ∙ items.items_back k xs (every-at (λ (x : ℕ). x < 256 ^ k) 0 xs f)
 
   pub whole_numbers : (xs : List ℕ) → length (bytes_of k xs) % k ≡ 0
@@ -56,28 +56,28 @@ pub signed_fit : (xs : List ℕ) → Small (256 ^ 2) xs → Every FitsSigned (ma
 signed_fit [] f = tt
 signed_fit (x ∷ xs) f = (mag-signed x f.0, signed_fit xs f.1)
 
-pub unsigned_fit : (zs : List ℤ) → Every FitsSigned zs → Small (256 ^ 2) (map unsignedOf zs)
+pub unsigned_fit : (zs : List ℤ) → Every FitsSigned zs → Small (256 ^ 2) (map unsigned_of zs)
 unsigned_fit [] f = tt
 unsigned_fit (z ∷ zs) f = (unsigned_small z f.0, unsigned_fit zs f.1)
 
-pub unsigned_back : (zs : List ℤ) → Every FitsSigned zs → map signed_of (map unsignedOf zs) ≡ zs
+pub unsigned_back : (zs : List ℤ) → Every FitsSigned zs → map signed_of (map unsigned_of zs) ≡ zs
 unsigned_back [] f = refl
 unsigned_back (z ∷ zs) f = λ i. signed-unsigned z f.0 i ∷ unsigned_back zs f.1 i
 
 -- Signed numbers.
-abbrev pub signedsFit : Fitting signeds
-signedsFit =
+abbrev pub signeds_fit : Fitting signeds
+signeds_fit =
     record {
       Fit = Every FitsSigned;
       held-fit = λ b held. signed_fit (items_of 2 b) (numbers_fit 2 (omega arith) b held);
-      fit-back = λ zs f. ap (map signed_of) (numbers-back 2 (omega arith) (map unsignedOf zs) (unsigned_fit zs f)) ∙ unsigned_back zs f;
+      fit-back = λ zs f. ap (map signed_of) (numbers-back 2 (omega arith) (map unsigned_of zs) (unsigned_fit zs f)) ∙ unsigned_back zs f;
       held_back = signeds-back;
-      none-spare = λ zs. whole_numbers 2 (omega arith) (map unsignedOf zs);
+      none-spare = λ zs. whole_numbers 2 (omega arith) (map unsigned_of zs);
     }
 
 -- Bytes as they are.
-abbrev pub rawFit : Fitting raw
-rawFit = record { Fit = λ xs. Unit {0}; held-fit = λ b f. f; fit-back = λ xs f. refl; held_back = λ b f h. refl; none-spare = λ xs. refl }
+abbrev pub raw_fit : Fitting raw
+raw_fit = record { Fit = λ xs. Unit {0}; held-fit = λ b f. f; fit-back = λ xs f. refl; held_back = λ b f h. refl; none-spare = λ xs. refl }
 
 -- Two together.
 infixr 30 ◌⊞◌
@@ -94,18 +94,18 @@ abbrev pub ◌⊞◌ : {C D : Coding} → Fitting C → Fitting D → Fitting (C
     }
 
 -- The same with names.
-abbrev pub namedFit : {S N : Type 0} {C : Coding} (f : Names S C.Strings) (g : Names N C.Numbers) → Fitting C → Fitting (named C f g)
-namedFit {S} {N} {C} f g F =
+abbrev pub named_fit : {S N : Type 0} {C : Coding} (f : Names S C.Strings) (g : Names N C.Numbers) → Fitting C → Fitting (named C f g)
+named_fit {S} {N} {C} f g F =
     record {
-      Fit = λ xs. F.Fit (g.inOrder xs);
-      held-fit = λ b held. subst F.Fit (sym (g.same-order (C.numbers (f.inOrder b)))) (F.held-fit (f.inOrder b) held);
+      Fit = λ xs. F.Fit (g.in_order xs);
+      held-fit = λ b held. subst F.Fit (sym (g.same_order (C.numbers (f.in_order b)))) (F.held-fit (f.in_order b) held);
       fit-back = λ xs h.
-          ap (λ (b : C.Strings). g.byName (C.numbers b)) (f.same-order (C.bytes (g.inOrder xs)))
-          ∙ ap g.byName (F.fit-back (g.inOrder xs) h)
+          ap (λ (b : C.Strings). g.by_name (C.numbers b)) (f.same_order (C.bytes (g.in_order xs)))
+          ∙ ap g.by_name (F.fit-back (g.in_order xs) h)
           ∙ g.same_names xs;
       held_back = λ b held h.
-          ap (λ (xs : C.Numbers). f.byName (C.bytes xs)) (g.same-order (C.numbers (f.inOrder b)))
-          ∙ ap f.byName (F.held_back (f.inOrder b) held h)
+          ap (λ (xs : C.Numbers). f.by_name (C.bytes xs)) (g.same_order (C.numbers (f.in_order b)))
+          ∙ ap f.by_name (F.held_back (f.in_order b) held h)
           ∙ f.same_names b;
-      none-spare = λ xs. ap C.spare (f.same-order (C.bytes (g.inOrder xs))) ∙ F.none-spare (g.inOrder xs);
+      none-spare = λ xs. ap C.spare (f.same_order (C.bytes (g.in_order xs))) ∙ F.none-spare (g.in_order xs);
     }

@@ -6,23 +6,23 @@ use lib.ListN.{length, get_or, take, replicate}
 use mir.Syntax.{w8}
 use mir.Val.{Fits}
 use Rattle.path.specs.Model.{Lists, lists}
-use Rattle.coding.specs.Models.{listNames, modelsCoding}
+use Rattle.coding.specs.Models.{list_names, models_coding}
 use Rattle.coding.specs.Inner.{ListsFit, HoldsModels}
 use Rattle.coding.proofs.Strings.{bytes-held, items_back, front_fits}
-use Rattle.coding.proofs.Cutting.{Cutting, firstUnsigneds, ◌⊠◌, namedCut}
+use Rattle.coding.proofs.Cutting.{Cutting, first_unsigneds, ◌⊠◌, named_cut}
 
 -- The first n models.
-abbrev pub modelsCut : ℕ → Cutting modelsCoding
-modelsCut n = namedCut listNames listNames (firstUnsigneds 2 n ⊠ firstUnsigneds 8 n ⊠ firstUnsigneds 2 n)
+abbrev pub models_cut : ℕ → Cutting models_coding
+models_cut n = named_cut list_names list_names (first_unsigneds 2 n ⊠ first_unsigneds 8 n ⊠ first_unsigneds 2 n)
 
 module _ (x : Lists) where
   -- What lent slices are known to hold are bytes.
   pub models-held : ((i : ℕ) → Fits w8 (get_or x.sizes i 0)) → ((i : ℕ) → Fits w8 (get_or x.losses i 0)) → ((i : ℕ) → Fits w8 (get_or x.weights i 0))
-      → modelsCoding.Held x
+      → models_coding.Held x
   models-held f g h = (bytes-held x.sizes f, (bytes-held x.losses g, bytes-held x.weights h))
 
   -- Whole items give their bytes back.
-  pub models-back : modelsCoding.Held x → modelsCoding.spare x ≡ 0 → x ≡ modelsCoding.bytes (modelsCoding.numbers x)
+  pub models-back : models_coding.Held x → models_coding.spare x ≡ 0 → x ≡ models_coding.bytes (models_coding.numbers x)
   models-back held whole =
       let s = items_back 2 x.sizes held.0 (omega arith) in
       let l = items_back 8 x.losses held.1.0 (omega arith) in
@@ -31,15 +31,15 @@ module _ (x : Lists) where
 
   -- Lists that fit, and have stayed as long as they were.
   module _ {n a b c : ℕ} (fit : ListsFit n x a b c) where
-    pub models-fit : (t : Lists) → length t.sizes ≡ a → length t.losses ≡ b → length t.weights ≡ c → (modelsCut n).Fits x t
-    models-fit t e f g = (e ∙ fit.sizes-fit, (f ∙ fit.losses-fit, g ∙ fit.weights-fit))
+    pub models-fit : (t : Lists) → length t.sizes ≡ a → length t.losses ≡ b → length t.weights ≡ c → (models_cut n).Fits x t
+    models-fit t e f g = (e ∙ fit.sizes_fit, (f ∙ fit.losses_fit, g ∙ fit.weights_fit))
 
     pub models-hold : {s l w : ℕ} → s ≡ a → l ≡ b → w ≡ c → HoldsModels s l w x.sizes x.losses x.weights
     models-hold e f g =
         record {
-          sizes-have = omega (arith, fit.sizes-fit);
-          losses-have = omega (arith, fit.losses-fit);
-          weights-have = omega (arith, fit.weights-fit);
+          sizes_have = omega (arith, fit.sizes_fit);
+          losses_have = omega (arith, fit.losses_fit);
+          weights_have = omega (arith, fit.weights_fit);
         }
 
   -- Fronts of three arrays with m places fit where they are as long as there are items to look at, n at most of each.
@@ -48,7 +48,7 @@ module _ (x : Lists) where
       → ListsFit n x (length (take a (replicate {A = ℕ} m 0))) (length (take b (replicate {A = ℕ} m 0))) (length (take c (replicate {A = ℕ} m 0)))
   fronts-fit m n e f g same few =
       record {
-        sizes-fit = front_fits {A = ℕ} 0 m _ n e same few;
-        losses-fit = front_fits {A = ℕ} 0 m _ n f same few;
-        weights-fit = front_fits {A = ℕ} 0 m _ n g same few;
+        sizes_fit = front_fits {A = ℕ} 0 m _ n e same few;
+        losses_fit = front_fits {A = ℕ} 0 m _ n f same few;
+        weights_fit = front_fits {A = ℕ} 0 m _ n g same few;
       }

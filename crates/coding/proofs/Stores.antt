@@ -7,11 +7,11 @@ use native.Mathlib.Numerals.{add-one}
 use native.Mathlib.Omega.{arith}
 use lib.ListN.{length, set, take, drop, replicate, length-set, length-append, take-append-drop}
 use lib.Seq.{length-take-le, take-suc-set, drop-set-lt}
-use Rattle.layout.specs.Item.{setItem}
+use Rattle.layout.specs.Item.{set_item}
 use Rattle.layout.specs.Items.{Bytes, items_of, bytes_of}
-use Rattle.layout.proofs.Laws.{length-setItem}
+use Rattle.layout.proofs.Laws.{length-set_item}
 use Rattle.layout.proofs.ItemLists.{length-bytes, set-item}
-use Rattle.path.specs.Buffer.{overwritten, overwrittenTo}
+use Rattle.path.specs.Buffer.{overwritten, overwritten_to}
 use Rattle.path.proofs.Buffers.{length-overwritten, length-zeros, zeros-grow}
 use Rattle.coding.specs.Inner.{Storable, ClearedTo}
 use Rattle.coding.proofs.Strings.{items_back}
@@ -24,7 +24,7 @@ pub record Clearing (k : ℕ) (b₀ b : List ℕ) (from n i at : ℕ) : Type 0 w
   pub cleared : ClearedTo k b₀ b from i
 
 -- Nothing is written over nothing.
-same-front : (xs : List ℕ) (n : ℕ) → n ≤ length xs → overwrittenTo (take n xs) n xs ≡ xs
+same-front : (xs : List ℕ) (n : ℕ) → n ≤ length xs → overwritten_to (take n xs) n xs ≡ xs
 same-front xs n h =
     let long : length (take n xs) ≡ n = length-take-le n xs h in
     let none : n - length (take n xs) ≡ 0 = omega arith in
@@ -49,7 +49,7 @@ module _ (k : ℕ) (b₀ : List ℕ) (from n : ℕ) where
   clear-inside i p fits = omega (arith, mul-suc k i, mul-le-mul_left {m = suc i} {n = n} k p)
 
   module _ (b : List ℕ) (i at : ℕ) (r : Clearing k b₀ b from n i at) where
-    pub clear-more : i < n → Clearing k b₀ (setItem k b at 0) from n (suc i) (at + k)
+    pub clear-more : i < n → Clearing k b₀ (set_item k b at 0) from n (suc i) (at + k)
     clear-more p =
         record {
           after = omega (arith, r.after);
@@ -57,12 +57,12 @@ module _ (k : ℕ) (b₀ : List ℕ) (from n : ℕ) where
           place = omega (arith, r.place, mul-suc k i);
           cleared =
               record {
-                long = length-setItem k b at 0 ∙ r.cleared.long;
+                long = length-set_item k b at 0 ∙ r.cleared.long;
                 is = λ xs e f m.
                     let front = length-take-le from xs f in
-                    let ys = overwrittenTo (take from xs) i xs in
+                    let ys = overwritten_to (take from xs) i xs in
                     let long : length ys ≡ length xs = length-overwritten (take from xs ++ replicate (i - length (take from xs)) 0) xs (omega (arith, length-zeros (take from xs) i, front)) in
-                    (λ j. setItem k (r.cleared.is xs e f (omega arith) j) (r.place j) 0)
+                    (λ j. set_item k (r.cleared.is xs e f (omega arith) j) (r.place j) 0)
                     ∙ set-item k ys i 0 (omega (arith, long))
                     ∙ ap (bytes_of k) (zeros-grow (take from xs) xs i (omega (arith, front, r.after)) (omega arith));
               };
@@ -93,15 +93,15 @@ module _ (k : ℕ) (b₀ : List ℕ) (kept n v : ℕ) (h : Storable k b₀ kept 
   store-inside i p = omega (arith, whole_long, mul-le-mul_left {m = i} {n = length items} k p)
 
   -- The value is put, and zeros after it.
-  pub stored : (b₁ b : List ℕ) → b₁ ≡ setItem k b₀ (k * kept) v → ClearedTo k b₁ b (kept + 1) n → b ≡ bytes_of k (overwrittenTo (take kept items ++ (v ∷ [])) n items)
+  pub stored : (b₁ b : List ℕ) → b₁ ≡ set_item k b₀ (k * kept) v → ClearedTo k b₁ b (kept + 1) n → b ≡ bytes_of k (overwritten_to (take kept items ++ (v ∷ [])) n items)
   stored b₁ b e c =
       let ys = set items kept v in
       let long : length ys ≡ length items = length-set items kept v in
-      let put : b₁ ≡ bytes_of k ys = e ∙ ap (λ (x : List ℕ). setItem k x (k * kept) v) (sym back) ∙ set-item k items kept v h.inside in
+      let put : b₁ ≡ bytes_of k ys = e ∙ ap (λ (x : List ℕ). set_item k x (k * kept) v) (sym back) ∙ set-item k items kept v h.inside in
       let front : take (kept + 1) ys ≡ take kept items ++ (v ∷ []) = rw (add-one kept) (take-suc-set items kept v h.inside) in
       let f = take kept items ++ (v ∷ []) in
       let zeros = f ++ replicate (n - length f) 0 in
       let f-long : length f ≡ suc kept = length-append (take kept items) (v ∷ []) ∙ omega (arith, length-take-le kept items (omega (arith, h.inside))) in
       c.is ys put (omega (arith, long, h.inside)) (omega (arith, long, h.room))
-      ∙ ap (λ (x : List ℕ). bytes_of k (overwrittenTo x n ys)) front
+      ∙ ap (λ (x : List ℕ). bytes_of k (overwritten_to x n ys)) front
       ∙ ap (λ (r : List ℕ). bytes_of k (zeros ++ r)) (drop-set-lt (length zeros) items kept v (omega (arith, length-zeros f n, f-long)))

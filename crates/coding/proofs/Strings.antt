@@ -11,7 +11,7 @@ use lib.ListN.{length, get_or, take, drop, replicate, drop_of_length-le, length-
 use lib.Seq.{take_all, length-take-le}
 use mir.Syntax.{w8}
 use mir.Val.{Fits}
-use Rattle.layout.specs.Items.{Bytes, itemsTo, items_of, bytes_of, signed_of, unsignedOf}
+use Rattle.layout.specs.Items.{Bytes, items_to, items_of, bytes_of, signed_of, unsigned_of}
 use Rattle.layout.proofs.ItemLists.{Below, length-items, take-items, bytes-append, bytes_rest, bytes_back, items-low}
 use Rattle.layout.proofs.Signs.{unsigned_signed}
 use Rattle.path.proofs.Cuts.{le-or-lt}
@@ -30,11 +30,11 @@ items_back k b bytes whole = bytes_back k b (length b / k) bytes (whole_length k
 
 module _ (k c : ℕ) (b : List ℕ) where
   -- As many items as the string has, and c at most.
-  pub items-read : (n : ℕ) → n ≡ min (length b / k) c → itemsTo k b n ≡ take c (items_of k b)
+  pub items-read : (n : ℕ) → n ≡ min (length b / k) c → items_to k b n ≡ take c (items_of k b)
   items-read n e =
       ⊎_elim
-      (λ (h : c ≤ length b / k). let f : n ≡ c = omega arith in ap (itemsTo k b) f ∙ sym (take-items k b c (length b / k) h))
-      (λ (h : length b / k < c). let f : n ≡ length b / k = omega arith in ap (itemsTo k b) f ∙ sym (take_all c (items_of k b) (omega (arith, length-items k b (length b / k)))))
+      (λ (h : c ≤ length b / k). let f : n ≡ c = omega arith in ap (items_to k b) f ∙ sym (take-items k b c (length b / k) h))
+      (λ (h : length b / k < c). let f : n ≡ length b / k = omega arith in ap (items_to k b) f ∙ sym (take_all c (items_of k b) (omega (arith, length-items k b (length b / k)))))
       (le-or-lt c (length b / k))
 
   module _ (bytes : Bytes b) (whole : length b % k ≡ 0) where
@@ -71,31 +71,31 @@ module _ {A B : Type 0} (f : A → B) where
   map-append (x ∷ xs) ys = ap (λ r. f x ∷ r) (map-append xs ys)
 
 -- Numbers of 16 bits, read with a sign and written again.
-signs-back : (xs : List ℕ) → Below 65536 xs → map unsignedOf (map signed_of xs) ≡ xs
+signs-back : (xs : List ℕ) → Below 65536 xs → map unsigned_of (map signed_of xs) ≡ xs
 signs-back [] b = refl
 signs-back (x ∷ xs) b = λ i. unsigned_signed x (b 0 (omega arith)) i ∷ signs-back xs (λ j h. b (suc j) (omega arith)) i
 
 module _ (b : List ℕ) (bytes : Bytes b) where
-  same-items : map unsignedOf (map signed_of (items_of 2 b)) ≡ items_of 2 b
+  same-items : map unsigned_of (map signed_of (items_of 2 b)) ≡ items_of 2 b
   same-items = signs-back (items_of 2 b) (items-low 2 b (length b / 2) bytes)
 
   -- So are whole signed items.
-  pub signeds-back : length b % 2 ≡ 0 → bytes_of 2 (map unsignedOf (map signed_of (items_of 2 b))) ≡ b
+  pub signeds-back : length b % 2 ≡ 0 → bytes_of 2 (map unsigned_of (map signed_of (items_of 2 b))) ≡ b
   signeds-back whole = ap (bytes_of 2) same-items ∙ items_back 2 b bytes whole
 
 -- The same of signed items that are read and written.
 module _ (c : ℕ) (b : List ℕ) where
-  pub signeds-read : (n : ℕ) → n ≡ min (length b / 2) c → map signed_of (itemsTo 2 b n) ≡ take c (map signed_of (items_of 2 b))
+  pub signeds-read : (n : ℕ) → n ≡ min (length b / 2) c → map signed_of (items_to 2 b n) ≡ take c (map signed_of (items_of 2 b))
   signeds-read n e = ap (map signed_of) (items-read 2 c b n e) ∙ sym (map-take signed_of c (items_of 2 b))
 
   module _ (bytes : Bytes b) (whole : length b % 2 ≡ 0) where
     pub signeds-joined : (xs : List ℤ) (n : ℕ) → n ≡ min (length b / 2) c
-        → bytes_of 2 (map unsignedOf xs) ++ drop (2 * n) b ≡ bytes_of 2 (map unsignedOf (xs ++ drop c (map signed_of (items_of 2 b))))
+        → bytes_of 2 (map unsigned_of xs) ++ drop (2 * n) b ≡ bytes_of 2 (map unsigned_of (xs ++ drop c (map signed_of (items_of 2 b))))
     signeds-joined xs n e =
         let signs = map signed_of (items_of 2 b) in
-        let rest : drop c (items_of 2 b) ≡ map unsignedOf (drop c signs) = ap (drop c) (sym (same-items b bytes)) ∙ map-drop unsignedOf c signs in
-        items-joined 2 c b bytes whole (map unsignedOf xs) n e
-        ∙ ap (bytes_of 2) (ap (λ (r : List ℕ). map unsignedOf xs ++ r) rest ∙ sym (map-append unsignedOf xs (drop c signs)))
+        let rest : drop c (items_of 2 b) ≡ map unsigned_of (drop c signs) = ap (drop c) (sym (same-items b bytes)) ∙ map-drop unsigned_of c signs in
+        items-joined 2 c b bytes whole (map unsigned_of xs) n e
+        ∙ ap (bytes_of 2) (ap (λ (r : List ℕ). map unsigned_of xs ++ r) rest ∙ sym (map-append unsigned_of xs (drop c signs)))
 
 -- The front of a list that is made of one value.
 pub front_length : {A : Type 0} (z : A) (n a : ℕ) → a ≤ n → length (take a (replicate n z)) ≡ a

@@ -2,8 +2,8 @@
 -- coding says how byte strings spell numbers, for one string or for several that are lent together. A string that ends inside an
 -- item is refused under 11, before any other check; and whatever the number, a refused call leaves every byte.
 use Rattle.std.specs.Prelude.{◌≡◌, cond, List, [], ◌∷◌, map, ℕ, ◌+◌, ◌%◌, eqb, ℤ, length}
-use Rattle.layout.specs.Items.{Bytes, items_of, bytes_of, signed_of, unsignedOf}
-use Rattle.path.specs.Refusal.{check, byChecks}
+use Rattle.layout.specs.Items.{Bytes, items_of, bytes_of, signed_of, unsigned_of}
+use Rattle.path.specs.Refusal.{check, by_checks}
 
 -- What a call leaves: its answer and its buffers.
 pub record Outcome (A B : Type 0) : Type 0 where
@@ -51,7 +51,7 @@ signeds =
       Held = Bytes;
       spare = λ b. length b % 2;
       numbers = λ b. map signed_of (items_of 2 b);
-      bytes = λ xs. bytes_of 2 (map unsignedOf xs);
+      bytes = λ xs. bytes_of 2 (map unsigned_of xs);
     }
 
 -- One string that the call on numbers takes as it is.
@@ -93,10 +93,10 @@ C ⊗ D =
 
 -- Names for the places of a tuple: a record's fields in their order, and the record of such a tuple.
 pub record Names (A B : Type 0) : Type 0 where
-  pub inOrder : A → B
-  pub byName : B → A
-  pub same-order : (b : B) → inOrder (byName b) ≡ b
-  pub same_names : (a : A) → byName (inOrder a) ≡ a
+  pub in_order : A → B
+  pub by_name : B → A
+  pub same_order : (b : B) → in_order (by_name b) ≡ b
+  pub same_names : (a : A) → by_name (in_order a) ≡ a
 
 -- The same coding with names for its strings and for its lists of numbers.
 abbrev pub named : {S N : Type 0} (C : Coding) → Names S C.Strings → Names N C.Numbers → Coding
@@ -104,19 +104,19 @@ named {S} {N} C f g =
     record {
       Strings = S;
       Numbers = N;
-      Held = λ b. C.Held (f.inOrder b);
-      spare = λ b. C.spare (f.inOrder b);
-      numbers = λ b. g.byName (C.numbers (f.inOrder b));
-      bytes = λ xs. f.byName (C.bytes (g.inOrder xs));
+      Held = λ b. C.Held (f.in_order b);
+      spare = λ b. C.spare (f.in_order b);
+      numbers = λ b. g.by_name (C.numbers (f.in_order b));
+      bytes = λ xs. f.by_name (C.bytes (g.in_order xs));
     }
 
 -- What a call on the numbers of strings leaves of these: the bytes of its buffers, or where it is refused the strings as they were.
-abbrev pub encodedOver : {A : Type 0} (D : Coding) → Answers A → D.Strings → Outcome A D.Numbers → Outcome A D.Strings
-encodedOver D a b o = outcome o.answer (cond (eqb (a.number o.answer) 0) (D.bytes o.buffers) b)
+abbrev pub encoded_over : {A : Type 0} (D : Coding) → Answers A → D.Strings → Outcome A D.Numbers → Outcome A D.Strings
+encoded_over D a b o = outcome o.answer (cond (eqb (a.number o.answer) 0) (D.bytes o.buffers) b)
 
 -- A call over byte strings: over what it only reads, coded by C, and over its buffers, coded by D.
-unfoldable pub onBytes : {A : Type 0} (C D : Coding) → Answers A → (C.Numbers → D.Numbers → Outcome A D.Numbers) → C.Strings → D.Strings
+unfoldable pub on_bytes : {A : Type 0} (C D : Coding) → Answers A → (C.Numbers → D.Numbers → Outcome A D.Numbers) → C.Strings → D.Strings
     → Outcome A D.Strings
-onBytes C D a call s b =
-    byChecks (check 11 (eqb (C.spare s + D.spare b) 0) ∷ []) (λ n. outcome (a.refused n) b)
-    (encodedOver D a b (call (C.numbers s) (D.numbers b)))
+on_bytes C D a call s b =
+    by_checks (check 11 (eqb (C.spare s + D.spare b) 0) ∷ []) (λ n. outcome (a.refused n) b)
+    (encoded_over D a b (call (C.numbers s) (D.numbers b)))

@@ -3,15 +3,15 @@
 
 ghost use Rattle.std.specs.Prelude.{◌≡◌, ◌*◌, ◌≤◌, ◌∷◌, [], ◌++◌, length, take};
 ghost use Rattle.layout.specs.Items.{items_of, bytes_of};
-ghost use Rattle.path.specs.Buffer.{overwrittenTo};
-ghost use Rattle.coding.specs.Inner.{Storable, ClearedTo, encodedTo, encodedSigned, Holds, HoldsModels, ModelsRead, ModelsEncoded, SegmentsRead, SegmentsEncoded};
+ghost use Rattle.path.specs.Buffer.{overwritten_to};
+ghost use Rattle.coding.specs.Inner.{Storable, ClearedTo, encoded_to, encoded_signed, Holds, HoldsModels, ModelsRead, ModelsEncoded, SegmentsRead, SegmentsEncoded};
 
 use layout::{put, read_i16s, read_items, read_u16s, write_i16s, write_items, write_u16s};
 
 // Writes a list of items of `width` bytes to the front of a byte string, unless the call was refused.
 pub fn encode_items(refusal: u64, bytes: &mut [u8], width: usize, items: &[u64])
     requires { width * length items.now ≤ length bytes.old }
-    ensures { bytes.new ≡ encodedTo refusal width bytes.old items.now }
+    ensures { bytes.new ≡ encoded_to refusal width bytes.old items.now }
 {
     if refusal != 0 {
         return;
@@ -22,7 +22,7 @@ pub fn encode_items(refusal: u64, bytes: &mut [u8], width: usize, items: &[u64])
 // Writes a list of items of two bytes to the front of a byte string, unless the call was refused.
 pub fn encode_u16s(refusal: u64, bytes: &mut [u8], items: &[u16])
     requires { 2 * length items.now ≤ length bytes.old }
-    ensures { bytes.new ≡ encodedTo refusal 2 bytes.old items.now }
+    ensures { bytes.new ≡ encoded_to refusal 2 bytes.old items.now }
 {
     if refusal != 0 {
         return;
@@ -33,7 +33,7 @@ pub fn encode_u16s(refusal: u64, bytes: &mut [u8], items: &[u16])
 // Writes a list of signed items of two bytes to the front of a byte string, unless the call was refused.
 pub fn encode_i16s(refusal: u64, bytes: &mut [u8], items: &[i16])
     requires { 2 * length items.now ≤ length bytes.old }
-    ensures { bytes.new ≡ encodedSigned refusal bytes.old items.now }
+    ensures { bytes.new ≡ encoded_signed refusal bytes.old items.now }
 {
     if refusal != 0 {
         return;
@@ -129,7 +129,7 @@ fn clear_items(bytes: &mut [u8], width: usize, from: usize, n: usize)
 // Puts a value after the first items of `width` bytes, which stay, and zeros after it as far as item n.
 pub fn store_item(bytes: &mut [u8], width: usize, kept: usize, n: usize, value: u64)
     requires { Storable width bytes.old kept n }
-    ensures { bytes.new ≡ bytes_of width (overwrittenTo
+    ensures { bytes.new ≡ bytes_of width (overwritten_to
         (take kept (items_of width bytes.old) ++ (value ∷ []))
         n
         (items_of width bytes.old)) }

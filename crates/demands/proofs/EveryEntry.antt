@@ -3,8 +3,8 @@ use mathlib.Core.Bool.{Bool, true, false, cond}
 use mathlib.Core.List.{List, [], ◌∷◌}
 use Prim.Native.Nat.{ℕ, zero, suc}
 use Rattle.coding.proofs.Small.{Every}
-use Rattle.path.specs.Model.{Model, Lists, model_at, pathOf}
-use Rattle.path.specs.Update.{kept, extended, passedOver, joined}
+use Rattle.path.specs.Model.{Model, Lists, model_at, path_of}
+use Rattle.path.specs.Update.{kept, extended, passed_over, joined}
 use Rattle.path.proofs.Updates.{Keeps, stays, drops, keeps}
 use Rattle.build.specs.Build.{built}
 
@@ -19,7 +19,7 @@ module _ (P : Model → Type 0) where
   every-kept (e ∷ r) m f = every-keeps (keeps e r m) f
 
   pub every-joined : (path : List Model) (m : Model) → P m → Every P path → Every P (joined path m)
-  every-joined path m h f = by-test (passedOver path m)
+  every-joined path m h f = by-test (passed_over path m)
     where
       by-test : (o : Bool) → Every P (cond o path (extended path m))
       by-test true = f
@@ -27,8 +27,8 @@ module _ (P : Model → Type 0) where
 
   -- Where it holds at every place of three lists, it holds of every path from these places.
   module _ (t : Lists) (at : (i : ℕ) → P (model_at t i)) where
-    pub every-path : (n : ℕ) → Every P (pathOf t n)
-    unfolding pathOf
+    pub every-path : (n : ℕ) → Every P (path_of t n)
+    unfolding path_of
     every-path zero = tt
     every-path (suc n) = (at n, every-path n)
 

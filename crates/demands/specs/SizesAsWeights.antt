@@ -5,15 +5,15 @@ use Rattle.std.specs.Prelude.{◌≡◌, Bool, ◌&&◌, List, [], ◌∷◌, �
 use Rattle.coding.specs.Coding.{unsigneds}
 use Rattle.path.specs.Model.{Model, Lists}
 use Rattle.path.specs.Update.{fraction, breakpoint}
-use Rattle.path.specs.Refusal.{check, refusalOf, maxSize, maxLoss, in_range, follows, sizeAbove, lossNotAbove, modelChecks}
-use Rattle.path.specs.Append.{appendOf}
-use Rattle.build.specs.Build.{buildOf}
-use Rattle.quadratic.specs.Quadratic.{quadraticOf}
+use Rattle.path.specs.Refusal.{check, refusal_of, max_size, max_loss, in_range, follows, size_above, loss_not_above, model_checks}
+use Rattle.path.specs.Append.{append_of}
+use Rattle.build.specs.Build.{build_of}
+use Rattle.quadratic.specs.Quadratic.{quadratic_of}
 use Rattle.select.specs.Penalty.{cost}
-use Rattle.select.specs.Select.{selectOf}
-use Rattle.signal.specs.SignalPath.{PathBuffers, signalPathOf}
-use Rattle.signal.specs.Split.{SplitBuffers, splitOf}
-use Rattle.byte_signals.specs.Signals.{signalStrings, signalPathBytesOf, SplitStrings, splitBytesOf}
+use Rattle.select.specs.Select.{select_of}
+use Rattle.signal.specs.SignalPath.{PathBuffers, signal_path_of}
+use Rattle.signal.specs.Split.{SplitBuffers, split_of}
+use Rattle.byte_signals.specs.Signals.{signal_strings, signal_path_bytes_of, SplitStrings, split_bytes_of}
 
 -- A model's size is its weight.
 abbrev pub OwnWeight : Model → Type 0
@@ -30,44 +30,44 @@ SameLists t = t.weights ≡ t.sizes
 
 -- Models, one by one and after a path.
 pub record OwnWeightRules : Type 0 where
-  pub range : (m : Model) → OwnWeight m → in_range m ≡ (leb 1 m.size && leb m.size maxSize && leb m.loss maxLoss)
+  pub range : (m : Model) → OwnWeight m → in_range m ≡ (leb 1 m.size && leb m.size max_size && leb m.loss max_loss)
   pub order : (d e : Model) → OwnWeight d → OwnWeight e → follows d e ≡ (ltb d.size e.size && ltb e.loss d.loss)
   pub checks : (path : List Model) (m : Model) → OwnWeights path → OwnWeight m
-      → refusalOf (modelChecks path m) ≡ refusalOf (check 5 (in_range m) ∷ check 6 (sizeAbove path m) ∷ check 7 (lossNotAbove path m) ∷ [])
+      → refusal_of (model_checks path m) ≡ refusal_of (check 5 (in_range m) ∷ check 6 (size_above path m) ∷ check 7 (loss_not_above path m) ∷ [])
   pub breakpoints : (d e : Model) → OwnWeight d → OwnWeight e → breakpoint d e ≡ fraction (d.loss - e.loss) (e.size - d.size)
   pub costs : (p q : ℕ) (m : Model) → OwnWeight m → cost p q m ≡ q * m.loss + p * m.size
 
 -- The calls on a path leave and answer sizes as weights where they are lent such.
 pub record OwnWeightCalls : Type 0 where
-  pub append : (t : Lists) (n : ℕ) (m : Model) → SameLists t → OwnWeight m → SameLists (appendOf t n m).buffers
-  pub build : (given t : Lists) → SameLists given → SameLists t → SameLists (buildOf given t).buffers
-  pub quadratic : (given t : Lists) → SameLists given → SameLists t → SameLists (quadraticOf given t).buffers
-  pub select : (t : Lists) (n p q : ℕ) → SameLists t → (selectOf t n p q).weight ≡ (selectOf t n p q).size
+  pub append : (t : Lists) (n : ℕ) (m : Model) → SameLists t → OwnWeight m → SameLists (append_of t n m).buffers
+  pub build : (given t : Lists) → SameLists given → SameLists t → SameLists (build_of given t).buffers
+  pub quadratic : (given t : Lists) → SameLists given → SameLists t → SameLists (quadratic_of given t).buffers
+  pub select : (t : Lists) (n p q : ℕ) → SameLists t → (select_of t n p q).weight ≡ (select_of t n p q).size
 
 -- The n sizes from k on.
-abbrev pub sizesFrom : ℕ → ℕ → List ℕ
-sizesFrom k zero = []
-sizesFrom k (suc n) = k ∷ sizesFrom (suc k) n
+abbrev pub sizes_from : ℕ → ℕ → List ℕ
+sizes_from k zero = []
+sizes_from k (suc n) = k ∷ sizes_from (suc k) n
 
 -- The sizes up to a limit.
-abbrev pub sizesUpTo : ℕ → List ℕ
-sizesUpTo limit = sizesFrom 1 limit
+abbrev pub sizes_up_to : ℕ → List ℕ
+sizes_up_to limit = sizes_from 1 limit
 
 -- The calls on signals with the sizes up to the limit as weights are those without weights, on numbers and on byte strings.
 pub record SizesForNone : Type 0 where
   pub signal-path : (samples : List ℤ) (limit d : ℕ) (b : PathBuffers)
-      → signalPathOf samples limit d (sizesUpTo limit) b ≡ signalPathOf samples limit d [] b
+      → signal_path_of samples limit d (sizes_up_to limit) b ≡ signal_path_of samples limit d [] b
   pub split : (samples : List ℤ) (limit d p q : ℕ) (b : SplitBuffers)
-      → splitOf samples limit d (sizesUpTo limit) p q b ≡ splitOf samples limit d [] p q b
-  pub byte-signal-path : (samples weights : List ℕ) (limit d : ℕ) (b : PathBuffers)
-      → (unsigneds 2).spare weights ≡ 0 → (unsigneds 2).numbers weights ≡ sizesUpTo limit
-      → signalPathBytesOf (signalStrings samples weights) limit d b ≡ signalPathBytesOf (signalStrings samples []) limit d b
+      → split_of samples limit d (sizes_up_to limit) p q b ≡ split_of samples limit d [] p q b
+  pub byte_signal_path : (samples weights : List ℕ) (limit d : ℕ) (b : PathBuffers)
+      → (unsigneds 2).spare weights ≡ 0 → (unsigneds 2).numbers weights ≡ sizes_up_to limit
+      → signal_path_bytes_of (signal_strings samples weights) limit d b ≡ signal_path_bytes_of (signal_strings samples []) limit d b
   pub byte_split : (samples weights : List ℕ) (limit d p q : ℕ) (b : SplitStrings)
-      → (unsigneds 2).spare weights ≡ 0 → (unsigneds 2).numbers weights ≡ sizesUpTo limit
-      → splitBytesOf (signalStrings samples weights) limit d p q b ≡ splitBytesOf (signalStrings samples []) limit d p q b
+      → (unsigneds 2).spare weights ≡ 0 → (unsigneds 2).numbers weights ≡ sizes_up_to limit
+      → split_bytes_of (signal_strings samples weights) limit d p q b ≡ split_bytes_of (signal_strings samples []) limit d p q b
 
 -- All of it.
 pub record SizesAsWeights : Type 0 where
   pub rules : OwnWeightRules
-  pub path-calls : OwnWeightCalls
-  pub signal-calls : SizesForNone
+  pub path_calls : OwnWeightCalls
+  pub signal_calls : SizesForNone

@@ -3,8 +3,8 @@
 ghost use Rattle.std.specs.Prelude.{◌≡◌};
 ghost use Rattle.coding.specs.Coding.{outcome};
 ghost use Rattle.path.specs.Model.{lists};
-ghost use Rattle.signal.specs.SignalPath.{pathBuffers};
-ghost use Rattle.byte_signals.specs.Signals.{signalStrings, signalPathBytesOf, splitStrings, splitBytesOf};
+ghost use Rattle.signal.specs.SignalPath.{path_buffers};
+ghost use Rattle.byte_signals.specs.Signals.{signal_strings, signal_path_bytes_of, split_strings, split_bytes_of};
 
 use signal::{SignalPathResult, SplitResult};
 
@@ -22,11 +22,11 @@ pub extern "C" fn foldwig_signal_path(
     scratch: &mut [u8],
 ) -> SignalPathResult
     ensures { outcome result
-        (pathBuffers
+        (path_buffers
         (lists path_sizes.new path_losses.new path_weights.new)
         scratch.new)
-        ≡ signalPathBytesOf (signalStrings samples.now weights.now) max_segments min_segment_len
-        (pathBuffers
+        ≡ signal_path_bytes_of (signal_strings samples.now weights.now) max_segments min_segment_len
+        (path_buffers
         (lists path_sizes.old path_losses.old path_weights.old)
         scratch.old) }
 {
@@ -60,12 +60,12 @@ pub extern "C" fn foldwig_split(
     scratch: &mut [u8],
 ) -> SplitResult
     ensures { outcome result
-        (splitStrings
+        (split_strings
         starts.new levels.new
         (lists path_sizes.new path_losses.new path_weights.new)
         scratch.new)
-        ≡ splitBytesOf (signalStrings samples.now weights.now) max_segments min_segment_len p q
-        (splitStrings
+        ≡ split_bytes_of (signal_strings samples.now weights.now) max_segments min_segment_len p q
+        (split_strings
         starts.old levels.old
         (lists path_sizes.old path_losses.old path_weights.old)
         scratch.old) }

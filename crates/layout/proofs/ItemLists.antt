@@ -7,72 +7,72 @@ use native.Mathlib.Nat.{pow-suc, mul-suc, add-suc, add-zero, mul-zero, mul-le-mu
 use native.Mathlib.Omega.{arith}
 use lib.ListN.{length, get_or, set, take, drop, length-set, length-append, length-drop, take-append-drop, drop_of_length-le, length-map, get_or-map}
 use lib.Seq.{drop-cons, take-suc, take_at, drop_at, drop-drop, take-add, take-append-le, take-suc-set, drop-set-lt, take_all, append_snoc, get_or_at, get_or-take, get_or-set_same, take-set-le, take-length, get_or-append-add, length-take-le, drop-append-add, set_at, ext_get_or}
-use Rattle.layout.specs.Item.{item, setItem}
-use Rattle.layout.specs.Items.{Bytes, itemsTo, itemBytes, bytes_of, signed_of, unsignedOf}
+use Rattle.layout.specs.Item.{item, set_item}
+use Rattle.layout.specs.Items.{Bytes, items_to, item_bytes, bytes_of, signed_of, unsigned_of}
 use lib.IntN.{ℤ, pos}
-use Rattle.layout.proofs.Laws.{item-low, length-setItem}
+use Rattle.layout.proofs.Laws.{item-low, length-set_item}
 
 -- The first n items are n items.
-pub length-items : (k : ℕ) (bytes : List ℕ) (n : ℕ) → length (itemsTo k bytes n) ≡ n
-unfolding itemsTo
+pub length-items : (k : ℕ) (bytes : List ℕ) (n : ℕ) → length (items_to k bytes n) ≡ n
+unfolding items_to
 length-items k bytes zero = refl
-length-items k bytes (suc n) = length-append (itemsTo k bytes n) (item k bytes (k * n) ∷ []) ∙ omega (arith, length-items k bytes n)
+length-items k bytes (suc n) = length-append (items_to k bytes n) (item k bytes (k * n) ∷ []) ∙ omega (arith, length-items k bytes n)
 
 -- The first c items of more.
-take_more : (k : ℕ) (bytes : List ℕ) (c d : ℕ) → take c (itemsTo k bytes (c + d)) ≡ itemsTo k bytes c
-unfolding itemsTo
-take_more k bytes c zero = rw add-zero (take_all c (itemsTo k bytes c) (omega (arith, length-items k bytes c)))
+take_more : (k : ℕ) (bytes : List ℕ) (c d : ℕ) → take c (items_to k bytes (c + d)) ≡ items_to k bytes c
+unfolding items_to
+take_more k bytes c zero = rw add-zero (take_all c (items_to k bytes c) (omega (arith, length-items k bytes c)))
 take_more k bytes c (suc d) =
-    rw add-suc (take-append-le c (itemsTo k bytes (c + d)) (item k bytes (k * (c + d)) ∷ []) (omega (arith, length-items k bytes (c + d))) ∙ take_more k bytes c d)
+    rw add-suc (take-append-le c (items_to k bytes (c + d)) (item k bytes (k * (c + d)) ∷ []) (omega (arith, length-items k bytes (c + d))) ∙ take_more k bytes c d)
 
-pub take-items : (k : ℕ) (bytes : List ℕ) (c n : ℕ) → c ≤ n → take c (itemsTo k bytes n) ≡ itemsTo k bytes c
+pub take-items : (k : ℕ) (bytes : List ℕ) (c n : ℕ) → c ≤ n → take c (items_to k bytes n) ≡ items_to k bytes c
 take-items k bytes c n h =
-    let e : n ≡ c + (n - c) = omega arith in ap (λ (m : ℕ). take c (itemsTo k bytes m)) e ∙ take_more k bytes c (n - c)
+    let e : n ≡ c + (n - c) = omega arith in ap (λ (m : ℕ). take c (items_to k bytes m)) e ∙ take_more k bytes c (n - c)
 
 -- The item at place i.
-pub item-at : (k : ℕ) (bytes : List ℕ) (n i : ℕ) → i < n → get_or (itemsTo k bytes n) i 0 ≡ item k bytes (k * i)
-unfolding itemsTo
+pub item-at : (k : ℕ) (bytes : List ℕ) (n i : ℕ) → i < n → get_or (items_to k bytes n) i 0 ≡ item k bytes (k * i)
+unfolding items_to
 item-at k bytes n i h =
-    sym (get_or-take (suc i) (itemsTo k bytes n) i 0 (omega arith))
+    sym (get_or-take (suc i) (items_to k bytes n) i 0 (omega arith))
     ∙ ap (λ (xs : List ℕ). get_or xs i 0) (take-items k bytes (suc i) n h)
-    ∙ get_or_at (itemsTo k bytes i) (item k bytes (k * i)) [] 0 i (length-items k bytes i)
+    ∙ get_or_at (items_to k bytes i) (item k bytes (k * i)) [] 0 i (length-items k bytes i)
 
 -- A number's bytes are k bytes.
-length-itemBytes : (k v : ℕ) → length (itemBytes k v) ≡ k
-unfolding itemBytes
-length-itemBytes zero v = refl
-length-itemBytes (suc k) v = ap suc (length-itemBytes k (v / 256))
+length-item_bytes : (k v : ℕ) → length (item_bytes k v) ≡ k
+unfolding item_bytes
+length-item_bytes zero v = refl
+length-item_bytes (suc k) v = ap suc (length-item_bytes k (v / 256))
 
 -- A put is the number's bytes in the place of those that stood there.
-put-spells : (k : ℕ) (bytes : List ℕ) (at v : ℕ) → at + k ≤ length bytes → setItem k bytes at v ≡ take at bytes ++ (itemBytes k v ++ drop (at + k) bytes)
-unfolding setItem itemBytes
+put-spells : (k : ℕ) (bytes : List ℕ) (at v : ℕ) → at + k ≤ length bytes → set_item k bytes at v ≡ take at bytes ++ (item_bytes k v ++ drop (at + k) bytes)
+unfolding set_item item_bytes
 put-spells zero bytes at v h = rw add-zero (sym (take-append-drop at bytes))
 put-spells (suc k) bytes at v h =
     let next = set bytes at (v % 256) in
     let e : suc at + k ≡ at + suc k = omega arith in
     put-spells k next (suc at) (v / 256) (omega (arith, length-set bytes at (v % 256)))
     ∙ rw (take-suc-set bytes at (v % 256) (omega arith), drop-set-lt (suc at + k) bytes at (v % 256) (omega arith), e)
-    (append_snoc (take at bytes) (v % 256) (itemBytes k (v / 256) ++ drop (at + suc k) bytes))
+    (append_snoc (take at bytes) (v % 256) (item_bytes k (v / 256) ++ drop (at + suc k) bytes))
 
 -- The bytes of two lists of items.
 pub bytes-append : (k : ℕ) (xs ys : List ℕ) → bytes_of k (xs ++ ys) ≡ bytes_of k xs ++ bytes_of k ys
 unfolding bytes_of
 bytes-append k [] ys = refl
-bytes-append k (x ∷ xs) ys = ap (λ (r : List ℕ). itemBytes k x ++ r) (bytes-append k xs ys) ∙ sym (append_assoc (itemBytes k x) (bytes_of k xs) (bytes_of k ys))
+bytes-append k (x ∷ xs) ys = ap (λ (r : List ℕ). item_bytes k x ++ r) (bytes-append k xs ys) ∙ sym (append_assoc (item_bytes k x) (bytes_of k xs) (bytes_of k ys))
 
-bytes_one : (k v : ℕ) → bytes_of k (v ∷ []) ≡ itemBytes k v
+bytes_one : (k v : ℕ) → bytes_of k (v ∷ []) ≡ item_bytes k v
 unfolding bytes_of
-bytes_one k v = append-nil (itemBytes k v)
+bytes_one k v = append-nil (item_bytes k v)
 
 pub length-bytes : (k : ℕ) (xs : List ℕ) → length (bytes_of k xs) ≡ k * length xs
 unfolding bytes_of
 length-bytes k [] = sym (mul-zero k)
 length-bytes k (x ∷ xs) =
-    length-append (itemBytes k x) (bytes_of k xs) ∙ omega (arith, length-itemBytes k x, length-bytes k xs, mul-suc k (length xs))
+    length-append (item_bytes k x) (bytes_of k xs) ∙ omega (arith, length-item_bytes k x, length-bytes k xs, mul-suc k (length xs))
 
 -- An item's bytes are got back.
-item-bytes-back : (k : ℕ) (bytes : List ℕ) (at : ℕ) → Bytes bytes → at + k ≤ length bytes → itemBytes k (item k bytes at) ≡ take k (drop at bytes)
-unfolding itemBytes item
+item-bytes-back : (k : ℕ) (bytes : List ℕ) (at : ℕ) → Bytes bytes → at + k ≤ length bytes → item_bytes k (item k bytes at) ≡ take k (drop at bytes)
+unfolding item_bytes item
 item-bytes-back zero bytes at b h = refl
 item-bytes-back (suc k) bytes at b h =
     let x = get_or bytes at 0 in
@@ -82,12 +82,12 @@ item-bytes-back (suc k) bytes at b h =
     rw (low, high, item-bytes-back k bytes (suc at) b (omega arith), drop-cons bytes at 0 (omega arith))
 
 -- The bytes of the first n items are the first k n bytes.
-pub bytes-items : (k : ℕ) (bytes : List ℕ) (n : ℕ) → Bytes bytes → k * n ≤ length bytes → bytes_of k (itemsTo k bytes n) ≡ take (k * n) bytes
-unfolding itemsTo bytes_of
+pub bytes-items : (k : ℕ) (bytes : List ℕ) (n : ℕ) → Bytes bytes → k * n ≤ length bytes → bytes_of k (items_to k bytes n) ≡ take (k * n) bytes
+unfolding items_to bytes_of
 bytes-items k bytes zero b h = rw mul-zero
 bytes-items k bytes (suc n) b h =
     let m : k * suc n ≡ k * n + k = mul-suc k n in
-    bytes-append k (itemsTo k bytes n) (item k bytes (k * n) ∷ [])
+    bytes-append k (items_to k bytes n) (item k bytes (k * n) ∷ [])
     ∙ rw (bytes-items k bytes n b (omega arith), bytes_one k (item k bytes (k * n)), item-bytes-back k bytes (k * n) b (omega arith), m) (sym (take-add (k * n) k bytes))
 
 -- The first i items written to the front of a byte string: their bytes, and the rest as it was.
@@ -95,8 +95,8 @@ abbrev pub written : ℕ → List ℕ → ℕ → List ℕ → List ℕ
 written k items i bytes = bytes_of k (take i items) ++ drop (k * i) bytes
 
 -- The first i items read to the front of a list.
-abbrev readTo : ℕ → List ℕ → ℕ → List ℕ → List ℕ
-readTo k bytes i items = itemsTo k bytes i ++ drop i items
+abbrev read_to : ℕ → List ℕ → ℕ → List ℕ → List ℕ
+read_to k bytes i items = items_to k bytes i ++ drop i items
 
 module _ (k : ℕ) (items bytes : List ℕ) where
   length_front : (i : ℕ) → i ≤ length items → length (bytes_of k (take i items)) ≡ k * i
@@ -107,30 +107,30 @@ module _ (k : ℕ) (items bytes : List ℕ) where
       length-append (bytes_of k (take i items)) (drop (k * i) bytes) ∙ omega (arith, length_front i h, length-drop (k * i) bytes)
 
   -- One item more is written.
-  write-more : (i : ℕ) → i < length items → k * suc i ≤ length bytes → setItem k (written k items i bytes) (k * i) (get_or items i 0) ≡ written k items (suc i) bytes
+  write-more : (i : ℕ) → i < length items → k * suc i ≤ length bytes → set_item k (written k items i bytes) (k * i) (get_or items i 0) ≡ written k items (suc i) bytes
   write-more i h f =
       let p = bytes_of k (take i items) in
       let m : k * suc i ≡ k * i + k = mul-suc k i in
       let l : length p ≡ k * i = length_front i (omega arith) in
       let d : drop (k * i + k) (p ++ drop (k * i) bytes) ≡ drop (k * i + k) bytes =
       ap (λ (n : ℕ). drop (n + k) (p ++ drop (k * i) bytes)) (sym l) ∙ drop-append-add p (drop (k * i) bytes) k ∙ drop-drop k (k * i) bytes in
-      let t : bytes_of k (take (suc i) items) ≡ p ++ itemBytes k (get_or items i 0) =
+      let t : bytes_of k (take (suc i) items) ≡ p ++ item_bytes k (get_or items i 0) =
       ap (bytes_of k) (take-suc items i 0 h) ∙ bytes-append k (take i items) (get_or items i 0 ∷ []) ∙ ap (λ (r : List ℕ). p ++ r) (bytes_one k (get_or items i 0)) in
       put-spells k (p ++ drop (k * i) bytes) (k * i) (get_or items i 0) (omega (arith, length-written i (omega arith) (omega arith)))
-      ∙ rw (take_at p (drop (k * i) bytes) (k * i) l, d, t, m) (sym (append_assoc p (itemBytes k (get_or items i 0)) (drop (k * i + k) bytes)))
+      ∙ rw (take_at p (drop (k * i) bytes) (k * i) l, d, t, m) (sym (append_assoc p (item_bytes k (get_or items i 0)) (drop (k * i + k) bytes)))
 
   -- One item more is read.
-  read_more : (i : ℕ) → i < length items → set (readTo k bytes i items) i (item k bytes (k * i)) ≡ readTo k bytes (suc i) items
-  unfolding itemsTo
+  read_more : (i : ℕ) → i < length items → set (read_to k bytes i items) i (item k bytes (k * i)) ≡ read_to k bytes (suc i) items
+  unfolding items_to
   read_more i h =
       rw (drop-cons items i 0 h)
-      (set_at (itemsTo k bytes i) (get_or items i 0) (drop (suc i) items) (item k bytes (k * i)) i (length-items k bytes i)
-      ∙ sym (append_snoc (itemsTo k bytes i) (item k bytes (k * i)) (drop (suc i) items)))
+      (set_at (items_to k bytes i) (get_or items i 0) (drop (suc i) items) (item k bytes (k * i)) i (length-items k bytes i)
+      ∙ sym (append_snoc (items_to k bytes i) (item k bytes (k * i)) (drop (suc i) items)))
 
 -- The bytes of the items from the c-th on are the bytes from the (k c)-th on.
-pub bytes_rest : (k : ℕ) (bytes : List ℕ) (n c : ℕ) → Bytes bytes → length bytes ≡ k * n → c ≤ n → bytes_of k (drop c (itemsTo k bytes n)) ≡ drop (k * c) bytes
+pub bytes_rest : (k : ℕ) (bytes : List ℕ) (n c : ℕ) → Bytes bytes → length bytes ≡ k * n → c ≤ n → bytes_of k (drop c (items_to k bytes n)) ≡ drop (k * c) bytes
 bytes_rest k bytes n c b e h =
-    let all = itemsTo k bytes n in
+    let all = items_to k bytes n in
     let low : k * c ≤ k * n = mul-le-mul_left k h in
     let whole : bytes_of k all ≡ bytes = bytes-items k bytes n b (omega arith) ∙ take_all (k * n) bytes (omega arith) in
     let front : bytes_of k (take c all) ≡ take (k * c) bytes = ap (bytes_of k) (take-items k bytes c n h) ∙ bytes-items k bytes c b (omega arith) in
@@ -139,7 +139,7 @@ bytes_rest k bytes n c b e h =
     sym (ap (drop (k * c)) parts ∙ drop_at (take (k * c) bytes) (bytes_of k (drop c all)) (k * c) (length-take-le (k * c) bytes (omega arith)))
 
 -- Whole items give their bytes back.
-pub bytes_back : (k : ℕ) (bytes : List ℕ) (n : ℕ) → Bytes bytes → length bytes ≡ k * n → bytes_of k (itemsTo k bytes n) ≡ bytes
+pub bytes_back : (k : ℕ) (bytes : List ℕ) (n : ℕ) → Bytes bytes → length bytes ≡ k * n → bytes_of k (items_to k bytes n) ≡ bytes
 bytes_back k bytes n b e = bytes-items k bytes n b (omega arith) ∙ take_all (k * n) bytes (omega arith)
 
 -- An item further on in a string.
@@ -150,11 +150,11 @@ item-shift (suc k) p q at =
     let e : suc (length p + at) ≡ length p + suc at = omega arith in
     rw (get_or-append-add p q at 0, e, item-shift k p q (suc at))
 
-item-spelled : (k v : ℕ) (rest : List ℕ) → v < 256 ^ k → item k (itemBytes k v ++ rest) 0 ≡ v
-unfolding item itemBytes
+item-spelled : (k v : ℕ) (rest : List ℕ) → v < 256 ^ k → item k (item_bytes k v ++ rest) 0 ≡ v
+unfolding item item_bytes
 item-spelled zero v rest h = omega arith
 item-spelled (suc k) v rest h =
-    let more : item k (v % 256 ∷ (itemBytes k (v / 256) ++ rest)) 1 ≡ item k (itemBytes k (v / 256) ++ rest) 0 = item-shift k (v % 256 ∷ []) (itemBytes k (v / 256) ++ rest) 0 in
+    let more : item k (v % 256 ∷ (item_bytes k (v / 256) ++ rest)) 1 ≡ item k (item_bytes k (v / 256) ++ rest) 0 = item-shift k (v % 256 ∷ []) (item_bytes k (v / 256) ++ rest) 0 in
     omega (arith, more, item-spelled k (v / 256) rest (omega (arith, pow-suc 256 k)))
 
 -- Every element is below a limit.
@@ -165,32 +165,32 @@ item-of-bytes : (k : ℕ) (xs : List ℕ) (i : ℕ) → Below (256 ^ k) xs → i
 unfolding bytes_of
 item-of-bytes k (x ∷ xs) zero b h = rw mul-zero (item-spelled k x (bytes_of k xs) (b 0 h))
 item-of-bytes k (x ∷ xs) (suc i) b h =
-    let e : k * suc i ≡ length (itemBytes k x) + k * i = omega (arith, mul-suc k i, length-itemBytes k x) in
-    rw (e, item-shift k (itemBytes k x) (bytes_of k xs) (k * i)) (item-of-bytes k xs i (λ j l. b (suc j) (omega arith)) (omega arith))
+    let e : k * suc i ≡ length (item_bytes k x) + k * i = omega (arith, mul-suc k i, length-item_bytes k x) in
+    rw (e, item-shift k (item_bytes k x) (bytes_of k xs) (k * i)) (item-of-bytes k xs i (λ j l. b (suc j) (omega arith)) (omega arith))
 
-getD-items : (k : ℕ) (bytes : List ℕ) (n i : ℕ) → i < n → get_or (itemsTo k bytes n) i 0 ≡ item k bytes (k * i)
-unfolding itemsTo
-getD-items k bytes n i h =
-    ap (λ (xs : List ℕ). get_or xs i 0) (sym (take-append-drop (suc i) (itemsTo k bytes n)) ∙ ap (λ (r : List ℕ). r ++ drop (suc i) (itemsTo k bytes n)) (take-items k bytes (suc i) n h) ∙ append_assoc (itemsTo k bytes i) (item k bytes (k * i) ∷ []) (drop (suc i) (itemsTo k bytes n)))
-    ∙ get_or_at (itemsTo k bytes i) (item k bytes (k * i)) (drop (suc i) (itemsTo k bytes n)) 0 i (length-items k bytes i)
+get_or-items : (k : ℕ) (bytes : List ℕ) (n i : ℕ) → i < n → get_or (items_to k bytes n) i 0 ≡ item k bytes (k * i)
+unfolding items_to
+get_or-items k bytes n i h =
+    ap (λ (xs : List ℕ). get_or xs i 0) (sym (take-append-drop (suc i) (items_to k bytes n)) ∙ ap (λ (r : List ℕ). r ++ drop (suc i) (items_to k bytes n)) (take-items k bytes (suc i) n h) ∙ append_assoc (items_to k bytes i) (item k bytes (k * i) ∷ []) (drop (suc i) (items_to k bytes n)))
+    ∙ get_or_at (items_to k bytes i) (item k bytes (k * i)) (drop (suc i) (items_to k bytes n)) 0 i (length-items k bytes i)
 
 -- Items that fit are got back from their bytes.
-pub items_back : (k : ℕ) (xs : List ℕ) → Below (256 ^ k) xs → itemsTo k (bytes_of k xs) (length xs) ≡ xs
+pub items_back : (k : ℕ) (xs : List ℕ) → Below (256 ^ k) xs → items_to k (bytes_of k xs) (length xs) ≡ xs
 items_back k xs b =
-    ext_get_or 0 (itemsTo k (bytes_of k xs) (length xs)) xs (length-items k (bytes_of k xs) (length xs))
-    (λ i h. let l : i < length xs = omega (arith, length-items k (bytes_of k xs) (length xs)) in getD-items k (bytes_of k xs) (length xs) i l ∙ item-of-bytes k xs i b l)
+    ext_get_or 0 (items_to k (bytes_of k xs) (length xs)) xs (length-items k (bytes_of k xs) (length xs))
+    (λ i h. let l : i < length xs = omega (arith, length-items k (bytes_of k xs) (length xs)) in get_or-items k (bytes_of k xs) (length xs) i l ∙ item-of-bytes k xs i b l)
 
 -- Items of bytes fit.
-pub items-low : (k : ℕ) (bytes : List ℕ) (n : ℕ) → Bytes bytes → Below (256 ^ k) (itemsTo k bytes n)
+pub items-low : (k : ℕ) (bytes : List ℕ) (n : ℕ) → Bytes bytes → Below (256 ^ k) (items_to k bytes n)
 items-low k bytes n b i h =
-    let l : i < n = omega (arith, length-items k bytes n) in rw (getD-items k bytes n i l) (item-low k bytes (k * i) b)
+    let l : i < n = omega (arith, length-items k bytes n) in rw (get_or-items k bytes n i l) (item-low k bytes (k * i) b)
 
 -- What a loop has read after i items, at the place `at`.
 pub record ReadTo (k : ℕ) (bytes items₀ items : List ℕ) (i at : ℕ) : Type 0 where
   pub within : i ≤ length items₀
   pub long : length items ≡ length items₀
   pub place : at ≡ k * i
-  pub is : items ≡ readTo k bytes i items₀
+  pub is : items ≡ read_to k bytes i items₀
 
 -- The bytes of the items from the i-th on.
 rest-bytes : (k : ℕ) (xs : List ℕ) (i : ℕ) → i ≤ length xs → drop (k * i) (bytes_of k xs) ≡ bytes_of k (drop i xs)
@@ -200,7 +200,7 @@ rest-bytes k xs i h =
     ∙ drop_at (bytes_of k (take i xs)) (bytes_of k (drop i xs)) (k * i) (length-bytes k (take i xs) ∙ ap (λ (n : ℕ). k * n) (length-take-le i xs h))
 
 -- An item put among others.
-pub set-item : (k : ℕ) (xs : List ℕ) (i v : ℕ) → i < length xs → setItem k (bytes_of k xs) (k * i) v ≡ bytes_of k (set xs i v)
+pub set-item : (k : ℕ) (xs : List ℕ) (i v : ℕ) → i < length xs → set_item k (bytes_of k xs) (k * i) v ≡ bytes_of k (set xs i v)
 set-item k xs i v h =
     let ys = set xs i v in
     let b = bytes_of k xs in
@@ -213,7 +213,7 @@ set-item k xs i v h =
     let end : written k ys (suc i) b ≡ bytes_of k ys =
     ap (λ (r : List ℕ). bytes_of k (take (suc i) ys) ++ r) (rest-bytes k xs (suc i) h ∙ ap (bytes_of k) (sym (drop-set-lt (suc i) xs i v (omega arith))))
     ∙ sym (bytes-append k (take (suc i) ys) (drop (suc i) ys)) ∙ ap (bytes_of k) (take-append-drop (suc i) ys) in
-    (λ j. setItem k (sym start j) (k * i) (sym (get_or-set_same xs i v 0 h) j))
+    (λ j. set_item k (sym start j) (k * i) (sym (get_or-set_same xs i v 0 h) j))
     ∙ write-more k ys b i (omega arith) (omega (arith, whole, mul-le-mul_left {m = suc i} {n = length xs} k h))
     ∙ end
 
@@ -230,7 +230,7 @@ one_more k i n m h f = omega (arith, mul-suc k i, mul-le-mul_left {m = suc i} {n
 
 module _ (k : ℕ) (bytes items₀ : List ℕ) where
   pub read-start : ReadTo k bytes items₀ items₀ 0 0
-  unfolding itemsTo
+  unfolding items_to
   read-start = record { within = omega arith; long = refl; place = sym (mul-zero k); is = refl }
 
   module _ (items : List ℕ) (i at : ℕ) (r : ReadTo k bytes items₀ items i at) where
@@ -243,10 +243,10 @@ module _ (k : ℕ) (bytes items₀ : List ℕ) where
           is = ap (λ (x : ℕ). set items i x) (e ∙ ap (item k bytes) r.place) ∙ ap (λ (x : List ℕ). set x i (item k bytes (k * i))) r.is ∙ read_more k items₀ bytes i h;
         }
 
-    pub read-end : length items₀ ≤ i → items ≡ itemsTo k bytes (length items₀)
+    pub read-end : length items₀ ≤ i → items ≡ items_to k bytes (length items₀)
     read-end h =
         let e : i ≡ length items₀ = omega (arith, r.within) in
-        r.is ∙ rw (drop_of_length-le items₀ {i = i} h) (append-nil (itemsTo k bytes i) ∙ ap (itemsTo k bytes) e)
+        r.is ∙ rw (drop_of_length-le items₀ {i = i} h) (append-nil (items_to k bytes i) ∙ ap (items_to k bytes) e)
 
 module _ (k : ℕ) (items bytes₀ : List ℕ) (f : k * length items ≤ length bytes₀) where
   pub write-start : WrittenTo k items bytes₀ bytes₀ 0 0
@@ -254,13 +254,13 @@ module _ (k : ℕ) (items bytes₀ : List ℕ) (f : k * length items ≤ length 
   write-start = record { within = omega arith; long = refl; place = sym (mul-zero k); is = rw mul-zero }
 
   module _ (bytes : List ℕ) (i at : ℕ) (r : WrittenTo k items bytes₀ bytes i at) where
-    pub write_step : i < length items → WrittenTo k items bytes₀ (setItem k bytes at (get_or items i 0)) (suc i) (at + k)
+    pub write_step : i < length items → WrittenTo k items bytes₀ (set_item k bytes at (get_or items i 0)) (suc i) (at + k)
     write_step h =
         record {
           within = h;
-          long = length-setItem k bytes at (get_or items i 0) ∙ r.long;
+          long = length-set_item k bytes at (get_or items i 0) ∙ r.long;
           place = omega (arith, r.place, mul-suc k i);
-          is = ap (λ (x : ℕ). setItem k bytes x (get_or items i 0)) r.place ∙ ap (λ (x : List ℕ). setItem k x (k * i) (get_or items i 0)) r.is ∙ write-more k items bytes₀ i h (omega (arith, mul-le-mul_left {m = suc i} {n = length items} k h));
+          is = ap (λ (x : ℕ). set_item k bytes x (get_or items i 0)) r.place ∙ ap (λ (x : List ℕ). set_item k x (k * i) (get_or items i 0)) r.is ∙ write-more k items bytes₀ i h (omega (arith, mul-le-mul_left {m = suc i} {n = length items} k h));
         }
 
     pub write-end : length items ≤ i → bytes ≡ bytes_of k items ++ drop (k * length items) bytes₀
@@ -272,7 +272,7 @@ module _ (k : ℕ) (items bytes₀ : List ℕ) (f : k * length items ≤ length 
 pub record SignedTo (bytes : List ℕ) (items₀ items : List ℤ) (i : ℕ) : Type 0 where
   pub within : i ≤ length items₀
   pub long : length items ≡ length items₀
-  pub is : items ≡ map signed_of (itemsTo 2 bytes i) ++ drop i items₀
+  pub is : items ≡ map signed_of (items_to 2 bytes i) ++ drop i items₀
 
 map_snoc : (f : ℕ → ℤ) (xs : List ℕ) (x : ℕ) → map f (xs ++ (x ∷ [])) ≡ map f xs ++ (f x ∷ [])
 map_snoc f [] x = refl
@@ -280,29 +280,29 @@ map_snoc f (y ∷ xs) x = ap (λ (r : List ℤ). f y ∷ r) (map_snoc f xs x)
 
 module _ (bytes : List ℕ) (items₀ : List ℤ) where
   pub signed-start : SignedTo bytes items₀ items₀ 0
-  unfolding itemsTo
+  unfolding items_to
   signed-start = record { within = omega arith; long = refl; is = refl }
 
   module _ (items : List ℤ) (i : ℕ) (r : SignedTo bytes items₀ items i) where
-    length-signed : length (map signed_of (itemsTo 2 bytes i)) ≡ i
-    length-signed = length-map (itemsTo 2 bytes i) signed_of ∙ length-items 2 bytes i
+    length-signed : length (map signed_of (items_to 2 bytes i)) ≡ i
+    length-signed = length-map (items_to 2 bytes i) signed_of ∙ length-items 2 bytes i
 
     pub signed-step : i < length items₀ → (v : ℤ) → v ≡ signed_of (item 2 bytes (2 * i)) → SignedTo bytes items₀ (set items i v) (suc i)
-    unfolding itemsTo
+    unfolding items_to
     signed-step h v e =
-        let m = map signed_of (itemsTo 2 bytes i) in
+        let m = map signed_of (items_to 2 bytes i) in
         record {
           within = h;
           long = length-set items i v ∙ r.long;
-          is = ap (λ (x : List ℤ). set x i v) (r.is ∙ ap (λ (x : List ℤ). m ++ x) (drop-cons items₀ i (pos 0) h)) ∙ set_at m (get_or items₀ i (pos 0)) (drop (suc i) items₀) v i length-signed ∙ sym (append_snoc m v (drop (suc i) items₀)) ∙ ap (λ (x : List ℤ). x ++ drop (suc i) items₀) (ap (λ (z : ℤ). m ++ (z ∷ [])) e ∙ sym (map_snoc signed_of (itemsTo 2 bytes i) (item 2 bytes (2 * i))));
+          is = ap (λ (x : List ℤ). set x i v) (r.is ∙ ap (λ (x : List ℤ). m ++ x) (drop-cons items₀ i (pos 0) h)) ∙ set_at m (get_or items₀ i (pos 0)) (drop (suc i) items₀) v i length-signed ∙ sym (append_snoc m v (drop (suc i) items₀)) ∙ ap (λ (x : List ℤ). x ++ drop (suc i) items₀) (ap (λ (z : ℤ). m ++ (z ∷ [])) e ∙ sym (map_snoc signed_of (items_to 2 bytes i) (item 2 bytes (2 * i))));
         }
 
-    pub signed-end : length items₀ ≤ i → items ≡ map signed_of (itemsTo 2 bytes (length items₀))
+    pub signed-end : length items₀ ≤ i → items ≡ map signed_of (items_to 2 bytes (length items₀))
     signed-end h =
         let e : i ≡ length items₀ = omega (arith, r.within) in
-        r.is ∙ rw (drop_of_length-le items₀ {i = i} h) (append-nil (map signed_of (itemsTo 2 bytes i)) ∙ ap (λ (n : ℕ). map signed_of (itemsTo 2 bytes n)) e)
+        r.is ∙ rw (drop_of_length-le items₀ {i = i} h) (append-nil (map signed_of (items_to 2 bytes i)) ∙ ap (λ (n : ℕ). map signed_of (items_to 2 bytes n)) e)
 
 -- The bits of the i-th of signed items.
-pub unsigned-at : (items : List ℤ) (i : ℕ) → get_or (map unsignedOf items) i 0 ≡ unsignedOf (get_or items i (pos 0))
-unfolding unsignedOf
-unsigned-at items i = get_or-map unsignedOf items i (pos 0)
+pub unsigned-at : (items : List ℤ) (i : ℕ) → get_or (map unsigned_of items) i 0 ≡ unsigned_of (get_or items i (pos 0))
+unfolding unsigned_of
+unsigned-at items i = get_or-map unsigned_of items i (pos 0)

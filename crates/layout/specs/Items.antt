@@ -8,33 +8,33 @@ abbrev pub Bytes : List ℕ → Type 0
 Bytes bytes = (i : ℕ) → get_or bytes i 0 < 256
 
 -- The first n items of a byte string.
-unfoldable pub itemsTo : ℕ → List ℕ → ℕ → List ℕ
-itemsTo k bytes zero = []
-itemsTo k bytes (suc n) = itemsTo k bytes n ++ (item k bytes (k * n) ∷ [])
+unfoldable pub items_to : ℕ → List ℕ → ℕ → List ℕ
+items_to k bytes zero = []
+items_to k bytes (suc n) = items_to k bytes n ++ (item k bytes (k * n) ∷ [])
 
 -- All items of a byte string.
 abbrev pub items_of : ℕ → List ℕ → List ℕ
-items_of k bytes = itemsTo k bytes (length bytes / k)
+items_of k bytes = items_to k bytes (length bytes / k)
 
 -- A byte string consists of whole items.
-abbrev pub wholeItems : ℕ → List ℕ → Bool
-wholeItems k bytes = eqb (length bytes % k) 0
+abbrev pub whole_items : ℕ → List ℕ → Bool
+whole_items k bytes = eqb (length bytes % k) 0
 
 -- The k bytes of a number, low byte first.
-unfoldable pub itemBytes : ℕ → ℕ → List ℕ
-itemBytes zero v = []
-itemBytes (suc k) v = v % 256 ∷ itemBytes k (v / 256)
+unfoldable pub item_bytes : ℕ → ℕ → List ℕ
+item_bytes zero v = []
+item_bytes (suc k) v = v % 256 ∷ item_bytes k (v / 256)
 
 -- The bytes of a list of items.
 unfoldable pub bytes_of : ℕ → List ℕ → List ℕ
 bytes_of k [] = []
-bytes_of k (v ∷ vs) = itemBytes k v ++ bytes_of k vs
+bytes_of k (v ∷ vs) = item_bytes k v ++ bytes_of k vs
 
 -- The whole number that an item of two bytes stands for in two's complement.
 unfoldable pub signed_of : ℕ → ℤ
 signed_of v = cond (ltb v 32768) (pos v) (negsuc (65535 - v))
 
 -- The item of two bytes that stands for a whole number in two's complement.
-unfoldable pub unsignedOf : ℤ → ℕ
-unsignedOf (pos n) = n
-unsignedOf (negsuc n) = 65535 - n
+unfoldable pub unsigned_of : ℤ → ℕ
+unsigned_of (pos n) = n
+unsigned_of (negsuc n) = 65535 - n

@@ -1,8 +1,8 @@
 // Numbers as items of a byte string, low byte first: one item got or put, and the front of a string read to a list of numbers or
 // written from one. The table of starts in the scratch and the lists of the calls in C are made of such items.
 ghost use Rattle.std.specs.Prelude.{◌≡◌, map, ◌++◌, ◌+◌, ◌*◌, ◌≤◌, ◌<◌, length, get_or, drop};
-ghost use Rattle.layout.specs.Item.{item, setItem};
-ghost use Rattle.layout.specs.Items.{itemsTo, items_of, bytes_of, signed_of, unsignedOf};
+ghost use Rattle.layout.specs.Item.{item, set_item};
+ghost use Rattle.layout.specs.Items.{items_to, items_of, bytes_of, signed_of, unsigned_of};
 
 // The two-byte item that starts at the byte `at`.
 pub fn get_u16(bytes: &[u8], at: usize) -> u16
@@ -15,7 +15,7 @@ pub fn get_u16(bytes: &[u8], at: usize) -> u16
 // Puts `value` as the two-byte item that starts at the byte `at`.
 pub fn put_u16(bytes: &mut [u8], at: usize, value: u16)
     requires { at + 2 ≤ length bytes.old }
-    ensures { bytes.new ≡ setItem 2 bytes.old at value }
+    ensures { bytes.new ≡ set_item 2 bytes.old at value }
 {
     bytes[at] = (value % 256) as u8;
     bytes[at + 1] = (value / 256) as u8;
@@ -50,7 +50,7 @@ pub fn get(bytes: &[u8], at: usize, width: usize) -> u64
 // Puts `value` as the item of `width` bytes that starts at the byte `at`.
 pub fn put(bytes: &mut [u8], at: usize, width: usize, value: u64)
     requires { at + width ≤ length bytes.old }
-    ensures { bytes.new ≡ setItem width bytes.old at value }
+    ensures { bytes.new ≡ set_item width bytes.old at value }
 {
     let mut i = 0;
     let mut rest = value;
@@ -80,7 +80,7 @@ pub fn item_u64(bytes: &[u8], i: usize) -> u64
 // Reads as many items of `width` bytes as the list has places.
 pub fn read_items(bytes: &[u8], width: usize, items: &mut [u64])
     requires { (width ≤ 8) × (width * length items.old ≤ length bytes.now) }
-    ensures { items.new ≡ itemsTo width bytes.now (length items.old) }
+    ensures { items.new ≡ items_to width bytes.now (length items.old) }
 {
     let mut i = 0;
     let mut at = 0;
@@ -109,7 +109,7 @@ pub fn write_items(bytes: &mut [u8], width: usize, items: &[u64])
 // Reads as many items of two bytes as the list has places.
 pub fn read_u16s(bytes: &[u8], items: &mut [u16])
     requires { 2 * length items.old ≤ length bytes.now }
-    ensures { items.new ≡ itemsTo 2 bytes.now (length items.old) }
+    ensures { items.new ≡ items_to 2 bytes.now (length items.old) }
 {
     let mut i = 0;
     while i < items.len() {
@@ -143,7 +143,7 @@ fn signed(value: u16) -> i16
 
 // The 16 bits that stand for a number in two's complement.
 fn unsigned(value: i16) -> u16
-    ensures { result ≡ unsignedOf value }
+    ensures { result ≡ unsigned_of value }
 {
     if 0 <= value {
         return value as u16;
@@ -155,7 +155,7 @@ fn unsigned(value: i16) -> u16
 pub fn read_i16s(bytes: &[u8], items: &mut [i16])
     requires { 2 * length items.old ≤ length bytes.now }
     ensures { items.new
-        ≡ map signed_of (itemsTo 2 bytes.now (length items.old)) }
+        ≡ map signed_of (items_to 2 bytes.now (length items.old)) }
 {
     let mut i = 0;
     while i < items.len() {
@@ -167,7 +167,7 @@ pub fn read_i16s(bytes: &[u8], items: &mut [i16])
 // Writes a list of signed items of two bytes to the front of a byte string, whose rest stays.
 pub fn write_i16s(bytes: &mut [u8], items: &[i16])
     requires { 2 * length items.now ≤ length bytes.old }
-    ensures { bytes.new ≡ bytes_of 2 (map unsignedOf items.now)
+    ensures { bytes.new ≡ bytes_of 2 (map unsigned_of items.now)
         ++ drop (2 * length items.now) bytes.old }
 {
     let mut i = 0;

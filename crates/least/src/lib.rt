@@ -4,7 +4,7 @@
 // at least `min_segment_len` samples each.
 ghost use Rattle.std.specs.Prelude.{◌≡◌, ◌++◌, ℕ, min, ◌+◌, ◌-◌, ◌/◌, ◌<◌, length, drop};
 ghost use Rattle.segment.specs.Inner.{GainReady};
-ghost use Rattle.least.specs.Segmentation.{startsOf, levelsOf, chosen_of};
+ghost use Rattle.least.specs.Segmentation.{starts_of, levels_of, chosen_of};
 ghost use Rattle.least.specs.Inner.{LimitFrom, LimitAt, LeftFrom, LeftAt, SeedFrom, Seeded, DownFrom, Picked, PickFrom, Found};
 ghost use Rattle.least.specs.Inner.{KeepFrom, Kept, NextFrom, NextRow, RowIs, RowsFrom};
 ghost use Rattle.least.specs.Inner.{Table, TableFrom, TraceFrom, LevelsFrom};
@@ -474,7 +474,7 @@ pub fn trace_back(
 )
     requires { TraceFrom samples.now scratch.now starts.old min_segment_len segments }
     ensures { starts.new
-        ≡ startsOf (chosen_of samples.now min_segment_len segments) ++ drop segments starts.old }
+        ≡ starts_of (chosen_of samples.now min_segment_len segments) ++ drop segments starts.old }
 {
     let mut left = segments;
     let mut j = samples.len();
@@ -498,7 +498,7 @@ pub fn put_levels(
 )
     requires { LevelsFrom samples.now starts.now levels.old min_segment_len segments }
     ensures { levels.new
-        ≡ levelsOf (chosen_of samples.now min_segment_len segments) ++ drop segments levels.old }
+        ≡ levels_of (chosen_of samples.now min_segment_len segments) ++ drop segments levels.old }
 {
     let mut left = segments;
     let mut to = samples.len();

@@ -9,14 +9,14 @@ use native.Mathlib.Omega.{arith}
 use lib.Dec.{ltb, leb}
 use lib.ListN.{length, get_or, length-map}
 use borrow.Author.Tests.{ltb-true, leb-true, le-leb, lt-ltb}
-use Rattle.path.specs.Model.{Model, Lists, model_at, pathOf}
-use Rattle.path.specs.Refusal.{maxSize, maxLoss, maxWeight, maxModels, in_range, follows, ordered, room_for, pathRoom, validPath}
+use Rattle.path.specs.Model.{Model, Lists, model_at, path_of}
+use Rattle.path.specs.Refusal.{max_size, max_loss, max_weight, max_models, in_range, follows, ordered, room_for, path_room, valid_path}
 use Rattle.path.proofs.Checks.{both, room-parts}
 use Rattle.path.proofs.Order.{within, Before, follows-before}
 use Rattle.path.proofs.Turns.{Small, before_small, ordered-none, ordered-one, last-fails, order-fails, entry-passes}
-use Rattle.models.specs.Entries.{listsIn}
-use Rattle.models.specs.Inner.{noEntry}
-use Rattle.models.specs.InPlace.{modelIn, look_of, noLook, lookFrom, looksRight, lookOn, lookPasses}
+use Rattle.models.specs.Entries.{lists_in}
+use Rattle.models.specs.Inner.{no_entry}
+use Rattle.models.specs.InPlace.{model_in, look_of, no_look, look_from, looks_right, look_on, look_passes}
 use Rattle.models.specs.declared.Entry.{Entry}
 use Rattle.models.specs.declared.Look.{Look}
 
@@ -24,27 +24,27 @@ use Rattle.models.specs.declared.Look.{Look}
 pub record Right (s : Look) (e : Entry) : Type 0 where
   pub size : e.size < s.size
   pub loss : s.loss ≤ e.loss
-  pub low : e.loss ≤ maxLoss
+  pub low : e.loss ≤ max_loss
   pub weight : e.weight < s.weight
 
-pub right : (s : Look) (e : Entry) → looksRight s e ≡ true → Right s e
+pub right : (s : Look) (e : Entry) → looks_right s e ≡ true → Right s e
 right s e h =
-    let a = both (ltb e.size s.size && leb s.loss e.loss && leb e.loss maxLoss) (ltb e.weight s.weight) h in
-    let b = both (ltb e.size s.size && leb s.loss e.loss) (leb e.loss maxLoss) a.0 in
+    let a = both (ltb e.size s.size && leb s.loss e.loss && leb e.loss max_loss) (ltb e.weight s.weight) h in
+    let b = both (ltb e.size s.size && leb s.loss e.loss) (leb e.loss max_loss) a.0 in
     let d = both (ltb e.size s.size) (leb s.loss e.loss) b.0 in
     record { size = ltb-true _ _ d.0; loss = leb-true _ _ d.1; low = leb-true _ _ b.1; weight = ltb-true _ _ a.1 }
 
-is_right : (s : Look) (e : Entry) → Right s e → looksRight s e ≡ true
+is_right : (s : Look) (e : Entry) → Right s e → looks_right s e ≡ true
 is_right s e r = rw (lt-ltb _ _ r.size, le-leb _ _ r.loss, le-leb _ _ r.low, lt-ltb _ _ r.weight)
 
-not_right : (s : Look) (e : Entry) → looksRight s e ≡ false → Right s e → ⊥
+not_right : (s : Look) (e : Entry) → looks_right s e ≡ false → Right s e → ⊥
 not_right s e h r = false≢true (sym h ∙ is_right s e r)
 
 -- What the lists of entries have at a place is the entry there.
-pub model_in : (ys : List Entry) (i : ℕ) → model_at (listsIn ys) i ≡ modelIn (get_or ys i noEntry)
-model_in [] i = refl
-model_in (y ∷ ys) zero = refl
-model_in (y ∷ ys) (suc i) = model_in ys i
+pub model_at-lists_in : (ys : List Entry) (i : ℕ) → model_at (lists_in ys) i ≡ model_in (get_or ys i no_entry)
+model_at-lists_in [] i = refl
+model_at-lists_in (y ∷ ys) zero = refl
+model_at-lists_in (y ∷ ys) (suc i) = model_at-lists_in ys i
 
 -- Tests that hold do not matter.
 with-true : (x y : Bool) → (x && y) ≡ (x && true && true && (y && true))
@@ -55,9 +55,9 @@ with-true false y = refl
 module _ (t : Lists) (n len : ℕ) (v : Bool) where
   -- Before the last entry is looked at.
   pub record Fresh (s : Look) : Type 0 where
-    pub is : s ≡ look_of n (maxSize + 1) 0 (maxWeight + 1)
+    pub is : s ≡ look_of n (max_size + 1) 0 (max_weight + 1)
     pub room : n ≤ len
-    pub same : ordered (pathOf t n) ≡ v
+    pub same : ordered (path_of t n) ≡ v
 
   -- The entries from `left` on are in order, and so the ones up to it decide.
   pub record Reached (s : Look) : Type 0 where
@@ -66,12 +66,12 @@ module _ (t : Lists) (n len : ℕ) (v : Bool) where
     pub weight : s.weight ≡ (model_at t s.left).weight
     pub inside : s.left < len
     pub small : Small (model_at t s.left)
-    pub low : (model_at t s.left).loss ≤ maxLoss
-    pub same : ordered (pathOf t (suc s.left)) ≡ v
+    pub low : (model_at t s.left).loss ≤ max_loss
+    pub same : ordered (path_of t (suc s.left)) ≡ v
 
   -- The path is refused.
   pub record Refused (s : Look) : Type 0 where
-    pub is : s ≡ noLook
+    pub is : s ≡ no_look
     pub no-path : v ≡ false
 
   -- What a look has come to.
@@ -84,7 +84,7 @@ module _ (t : Lists) (n len : ℕ) (v : Bool) where
   look-within s (inr (inr h)) = omega (arith, ap (λ (x : Look). x.left) h.is)
 
   -- The look at entry `at`.
-  module _ (s : Look) (at : ℕ) (e : Entry) (some : s.left ≡ suc at) (is : model_at t at ≡ modelIn e) where
+  module _ (s : Look) (at : ℕ) (e : Entry) (some : s.left ≡ suc at) (is : model_at t at ≡ model_in e) where
     abbrev after : Look
     after = look_of (s.left - 1) e.size (e.loss + 1) e.weight
 
@@ -92,7 +92,7 @@ module _ (t : Lists) (n len : ℕ) (v : Bool) where
     d = model_at t at
 
     -- The look after it, where it is taken.
-    reached : Right s e → at < len → Small d → ordered (pathOf t (suc at)) ≡ v → Reached after
+    reached : Right s e → at < len → Small d → ordered (path_of t (suc at)) ≡ v → Reached after
     reached r inside small same =
         let e' : s.left - 1 ≡ at = omega (arith, some) in
         subst (λ (i : ℕ). Reached (look_of i e.size (e.loss + 1) e.weight)) (sym e')
@@ -102,7 +102,7 @@ module _ (t : Lists) (n len : ℕ) (v : Bool) where
           weight = ap (λ (m : Model). m.weight) (sym is);
           inside = inside;
           small = small;
-          low = subst (λ (m : Model). m.loss ≤ maxLoss) (sym is) r.low;
+          low = subst (λ (m : Model). m.loss ≤ max_loss) (sym is) r.low;
           same = same;
         })
 
@@ -116,12 +116,12 @@ module _ (t : Lists) (n len : ℕ) (v : Bool) where
     right-weight : Right s e → d.weight < s.weight
     right-weight r = subst (λ (m : Model). m.weight < s.weight) (sym is) r.weight
 
-    rights : d.size < s.size → s.loss ≤ d.loss → d.loss ≤ maxLoss → d.weight < s.weight → Right s e
+    rights : d.size < s.size → s.loss ≤ d.loss → d.loss ≤ max_loss → d.weight < s.weight → Right s e
     rights a b c f =
         record {
           size = subst (λ (m : Model). m.size < s.size) is a;
           loss = subst (λ (m : Model). s.loss ≤ m.loss) is b;
-          low = subst (λ (m : Model). m.loss ≤ maxLoss) is c;
+          low = subst (λ (m : Model). m.loss ≤ max_loss) is c;
           weight = subst (λ (m : Model). m.weight < s.weight) is f;
         }
 
@@ -129,34 +129,34 @@ module _ (t : Lists) (n len : ℕ) (v : Bool) where
     left_is : Fresh s → s.left ≡ n
     left_is f = ap (λ (x : Look). x.left) f.is
 
-    size_is : Fresh s → s.size ≡ maxSize + 1
+    size_is : Fresh s → s.size ≡ max_size + 1
     size_is f = ap (λ (x : Look). x.size) f.is
 
-    loss-is : Fresh s → s.loss ≡ 0
-    loss-is f = ap (λ (x : Look). x.loss) f.is
+    loss_is : Fresh s → s.loss ≡ 0
+    loss_is f = ap (λ (x : Look). x.loss) f.is
 
-    weight_is : Fresh s → s.weight ≡ maxWeight + 1
+    weight_is : Fresh s → s.weight ≡ max_weight + 1
     weight_is f = ap (λ (x : Look). x.weight) f.is
 
-    fresh-same : Fresh s → ordered (pathOf t (suc at)) ≡ v
-    fresh-same f = ap (λ (k : ℕ). ordered (pathOf t k)) (sym some ∙ left_is f) ∙ f.same
+    fresh-same : Fresh s → ordered (path_of t (suc at)) ≡ v
+    fresh-same f = ap (λ (k : ℕ). ordered (path_of t k)) (sym some ∙ left_is f) ∙ f.same
 
     -- The last entry is taken, or is out of range.
-    fresh_on : Fresh s → (b : Bool) → looksRight s e ≡ b → Looking (cond b after noLook)
+    fresh_on : Fresh s → (b : Bool) → looks_right s e ≡ b → Looking (cond b after no_look)
     fresh_on f true h =
         let r = right s e h in
         let small : Small d = record { size = omega (arith, right-size r, size_is f); weight = omega (arith, right-weight r, weight_is f) } in
         inr (inl (reached r (omega (arith, some, f.room, left_is f)) small (fresh-same f)))
     fresh_on f false h = inr (inr (record { is = refl; no-path = sym (fresh-same f) ∙ by-range (in_range d) refl }))
       where
-        by-range : (b : Bool) → in_range d ≡ b → ordered (pathOf t (suc at)) ≡ false
+        by-range : (b : Bool) → in_range d ≡ b → ordered (path_of t (suc at)) ≡ false
         by-range true g =
             let w = within d g in
-            absurd (not_right s e h (rights (omega (arith, w.small, size_is f)) (omega (arith, loss-is f)) w.low (omega (arith, w.light, weight_is f))))
+            absurd (not_right s e h (rights (omega (arith, w.small, size_is f)) (omega (arith, loss_is f)) w.low (omega (arith, w.light, weight_is f))))
         by-range false g = last-fails t at g
 
     -- An entry before one that was taken is in order and taken, or out of order, or has a loss out of range.
-    reached-on : Reached s → (b : Bool) → looksRight s e ≡ b → Looking (cond b after noLook)
+    reached-on : Reached s → (b : Bool) → looks_right s e ≡ b → Looking (cond b after no_look)
     reached-on f true h =
         let r = right s e h in
         let m = model_at t s.left in
@@ -168,49 +168,49 @@ module _ (t : Lists) (n len : ℕ) (v : Bool) where
         m : Model
         m = model_at t s.left
 
-        by-range : follows d m ≡ true → (b : Bool) → in_range d ≡ b → ordered (pathOf t (suc s.left)) ≡ false
+        by-range : follows d m ≡ true → (b : Bool) → in_range d ≡ b → ordered (path_of t (suc s.left)) ≡ false
         by-range o true g =
             let w = within d g in
             let a = follows-before d m o in
             absurd (not_right s e h (rights (omega (arith, a.sizes, f.size)) (omega (arith, a.losses, f.loss)) w.low (omega (arith, a.weights, f.weight))))
         by-range o false g = entry-passes t at s.left some o f.small ∙ last-fails t at g
 
-        by_order : (b : Bool) → follows d m ≡ b → ordered (pathOf t (suc s.left)) ≡ false
+        by_order : (b : Bool) → follows d m ≡ b → ordered (path_of t (suc s.left)) ≡ false
         by_order true o = by-range o (in_range d) refl
         by_order false o = order-fails t at s.left some o
 
-    pub look-on : Looking s → Looking (lookOn s e)
-    look-on (inl f) = fresh_on f (looksRight s e) refl
-    look-on (inr (inl f)) = reached-on f (looksRight s e) refl
+    pub look-on : Looking s → Looking (look_on s e)
+    look-on (inl f) = fresh_on f (looks_right s e) refl
+    look-on (inr (inl f)) = reached-on f (looks_right s e) refl
     look-on (inr (inr f)) = absurd (none_left (sym some ∙ ap (λ (x : Look). x.left) f.is))
       where
         none_left : suc at ≡ 0 → ⊥
         none_left h = omega arith
 
     -- It leaves fewer entries.
-    pub look-less : (lookOn s e).left < s.left
-    look-less = by-test (looksRight s e)
+    pub look-less : (look_on s e).left < s.left
+    look-less = by-test (looks_right s e)
       where
-        by-test : (b : Bool) → (cond b after noLook).left < s.left
+        by-test : (b : Bool) → (cond b after no_look).left < s.left
         by-test true = omega (arith, some)
         by-test false = omega (arith, some)
 
-  pub look-ends : (s : Look) → s.left ≡ 0 → Looking s → lookPasses s ≡ v
+  pub look-ends : (s : Look) → s.left ≡ 0 → Looking s → look_passes s ≡ v
   look-ends s z (inl h) = rw h.is (sym (ordered-none t (sym (ap (λ (x : Look). x.left) h.is) ∙ z)) ∙ h.same)
   look-ends s z (inr (inl h)) =
       rw (h.size, h.weight, z) (ends_at h.small h.low ∙ sym (ordered-one t z) ∙ h.same)
     where
-      ends_at : Small (model_at t s.left) → (model_at t s.left).loss ≤ maxLoss → (leb 1 (model_at t 0).size && leb 1 (model_at t 0).weight) ≡ in_range (model_at t 0)
+      ends_at : Small (model_at t s.left) → (model_at t s.left).loss ≤ max_loss → (leb 1 (model_at t 0).size && leb 1 (model_at t 0).weight) ≡ in_range (model_at t 0)
       ends_at a b =
           let a' : Small (model_at t 0) = subst (λ (i : ℕ). Small (model_at t i)) z a in
-          let b' : (model_at t 0).loss ≤ maxLoss = subst (λ (i : ℕ). (model_at t i).loss ≤ maxLoss) z b in
+          let b' : (model_at t 0).loss ≤ max_loss = subst (λ (i : ℕ). (model_at t i).loss ≤ max_loss) z b in
           rw (le-leb _ _ a'.size, le-leb _ _ b', le-leb _ _ a'.weight) (with-true (leb 1 (model_at t 0).size) (leb 1 (model_at t 0).weight))
   look-ends s z (inr (inr h)) = rw h.is (sym h.no-path)
 
 -- The look at the start of a list of entries.
 module _ (ys : List Entry) (n : ℕ) where
   abbrev pub given : Lists
-  given = listsIn ys
+  given = lists_in ys
 
   room-thrice : (x y : Bool) → (x && (y && (y && (y && true)))) ≡ (x && (y && true))
   room-thrice true true = refl
@@ -218,20 +218,20 @@ module _ (ys : List Entry) (n : ℕ) where
   room-thrice false y = refl
 
   -- Three lists have room where the list of entries has.
-  pub room-is : pathRoom given n ≡ room_for n (maxModels ∷ length ys ∷ [])
+  pub room-is : path_room given n ≡ room_for n (max_models ∷ length ys ∷ [])
   room-is =
       rw (length-map ys (λ (e : Entry). e.size), length-map ys (λ (e : Entry). e.loss), length-map ys (λ (e : Entry). e.weight))
-      (room-thrice (leb n maxModels) (leb n (length ys)))
+      (room-thrice (leb n max_models) (leb n (length ys)))
 
-  pub look-start : Looking given n (length ys) (validPath given n) (lookFrom n (length ys))
-  unfolding validPath
-  look-start = by-test (room_for n (maxModels ∷ length ys ∷ [])) refl
+  pub look-start : Looking given n (length ys) (valid_path given n) (look_from n (length ys))
+  unfolding valid_path
+  look-start = by-test (room_for n (max_models ∷ length ys ∷ [])) refl
     where
-      by-test : (b : Bool) → room_for n (maxModels ∷ length ys ∷ []) ≡ b
-          → Looking given n (length ys) (pathRoom given n && ordered (pathOf given n)) (cond b (look_of n (maxSize + 1) 0 (maxWeight + 1)) noLook)
+      by-test : (b : Bool) → room_for n (max_models ∷ length ys ∷ []) ≡ b
+          → Looking given n (length ys) (path_room given n && ordered (path_of given n)) (cond b (look_of n (max_size + 1) 0 (max_weight + 1)) no_look)
       by-test true h =
-          let whole : pathRoom given n ≡ true = room-is ∙ h in
-          inl (record { is = refl; room = (room-parts n (maxModels ∷ length ys ∷ []) h).1.0; same = sym (ap (λ (b : Bool). b && ordered (pathOf given n)) whole) })
+          let whole : path_room given n ≡ true = room-is ∙ h in
+          inl (record { is = refl; room = (room-parts n (max_models ∷ length ys ∷ []) h).1.0; same = sym (ap (λ (b : Bool). b && ordered (path_of given n)) whole) })
       by-test false h =
-          let none : pathRoom given n ≡ false = room-is ∙ h in
-          inr (inr (record { is = refl; no-path = ap (λ (b : Bool). b && ordered (pathOf given n)) none }))
+          let none : path_room given n ≡ false = room-is ∙ h in
+          inr (inr (record { is = refl; no-path = ap (λ (b : Bool). b && ordered (path_of given n)) none }))

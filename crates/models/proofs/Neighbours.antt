@@ -8,21 +8,21 @@ use lib.ListN.{length, get_or, set, length-set, length-map, get_or-map}
 use Rattle.path.specs.Update.{Fraction}
 use Rattle.select.specs.Inner.{Listable, Written}
 use Rattle.select.proofs.Listings.{written_none, written-more}
-use Rattle.models.specs.Entries.{lossesIn, weightsIn}
-use Rattle.models.specs.Inner.{noEntry, lossOf, weightOf}
+use Rattle.models.specs.Entries.{losses_in, weights_in}
+use Rattle.models.specs.Inner.{no_entry, loss_of, weight_of}
 use Rattle.models.specs.declared.Entry.{Entry}
 
 -- How much the loss falls from an entry to the next, and how much the weight rises.
-abbrev pub lossFall : Entry → Entry → ℕ
-lossFall d e = lossOf d - lossOf e
+abbrev pub loss_fall : Entry → Entry → ℕ
+loss_fall d e = loss_of d - loss_of e
 
-abbrev pub weightRise : Entry → Entry → ℕ
-weightRise d e = weightOf e - weightOf d
+abbrev pub weight_rise : Entry → Entry → ℕ
+weight_rise d e = weight_of e - weight_of d
 
 -- A list of numbers with a number of each of the first i entries and its next one over its front.
 unfoldable pub listed : (Entry → Entry → ℕ) → List Entry → List ℕ → ℕ → List ℕ
 listed f ys zs zero = zs
-listed f ys zs (suc i) = set (listed f ys zs i) i (f (get_or ys i noEntry) (get_or ys (i + 1) noEntry))
+listed f ys zs (suc i) = set (listed f ys zs i) i (f (get_or ys i no_entry) (get_or ys (i + 1) no_entry))
 
 pub length-listed : (f : Entry → Entry → ℕ) (ys : List Entry) (zs : List ℕ) (i : ℕ) → length (listed f ys zs i) ≡ length zs
 unfolding listed
@@ -30,46 +30,46 @@ length-listed f ys zs zero = refl
 length-listed f ys zs (suc i) = length-set (listed f ys zs i) i _ ∙ length-listed f ys zs i
 
 -- A place of the losses or the weights.
-pub loss-at : (ys : List Entry) (i : ℕ) → lossOf (get_or ys i noEntry) ≡ get_or (lossesIn ys) i 0
-loss-at ys i = sym (get_or-map lossOf ys i noEntry)
+pub loss-at : (ys : List Entry) (i : ℕ) → loss_of (get_or ys i no_entry) ≡ get_or (losses_in ys) i 0
+loss-at ys i = sym (get_or-map loss_of ys i no_entry)
 
-pub weight-at : (ys : List Entry) (i : ℕ) → weightOf (get_or ys i noEntry) ≡ get_or (weightsIn ys) i 0
-weight-at ys i = sym (get_or-map weightOf ys i noEntry)
+pub weight-at : (ys : List Entry) (i : ℕ) → weight_of (get_or ys i no_entry) ≡ get_or (weights_in ys) i 0
+weight-at ys i = sym (get_or-map weight_of ys i no_entry)
 
 module _ (ys : List Entry) (zs : List ℕ) where
-  pub falls-written : (i : ℕ) → i ≤ length zs → Written (λ (b : Fraction). b.numerator) (lossesIn ys) (weightsIn ys) zs (listed lossFall ys zs i) i
+  pub falls-written : (i : ℕ) → i ≤ length zs → Written (λ (b : Fraction). b.numerator) (losses_in ys) (weights_in ys) zs (listed loss_fall ys zs i) i
   unfolding listed
-  falls-written zero h = written_none (λ (b : Fraction). b.numerator) (lossesIn ys) (weightsIn ys) zs
+  falls-written zero h = written_none (λ (b : Fraction). b.numerator) (losses_in ys) (weights_in ys) zs
   falls-written (suc i) h =
       rw (← add-one i)
-      (written-more (λ (b : Fraction). b.numerator) (lossesIn ys) (weightsIn ys) zs (listed lossFall ys zs i) i (falls-written i (omega arith)) h _
+      (written-more (λ (b : Fraction). b.numerator) (losses_in ys) (weights_in ys) zs (listed loss_fall ys zs i) i (falls-written i (omega arith)) h _
       (λ s. rw (loss-at ys i, loss-at ys (i + 1)) refl))
 
-  pub rises-written : (i : ℕ) → i ≤ length zs → Written (λ (b : Fraction). b.denominator) (lossesIn ys) (weightsIn ys) zs (listed weightRise ys zs i) i
+  pub rises-written : (i : ℕ) → i ≤ length zs → Written (λ (b : Fraction). b.denominator) (losses_in ys) (weights_in ys) zs (listed weight_rise ys zs i) i
   unfolding listed
-  rises-written zero h = written_none (λ (b : Fraction). b.denominator) (lossesIn ys) (weightsIn ys) zs
+  rises-written zero h = written_none (λ (b : Fraction). b.denominator) (losses_in ys) (weights_in ys) zs
   rises-written (suc i) h =
       rw (← add-one i)
-      (written-more (λ (b : Fraction). b.denominator) (lossesIn ys) (weightsIn ys) zs (listed weightRise ys zs i) i (rises-written i (omega arith)) h _
+      (written-more (λ (b : Fraction). b.denominator) (losses_in ys) (weights_in ys) zs (listed weight_rise ys zs i) i (rises-written i (omega arith)) h _
       (λ s. rw (weight-at ys i, weight-at ys (i + 1)) refl))
 
 -- In a turn every place that is read or written is inside its list, and no difference is negative.
 pub record Turn (ys : List Entry) (i count a b : ℕ) : Type 0 where
   pub next-in : i + 1 < length ys
-  pub fall : lossOf (get_or ys (i + 1) noEntry) ≤ lossOf (get_or ys i noEntry)
-  pub rise : weightOf (get_or ys i noEntry) ≤ weightOf (get_or ys (i + 1) noEntry)
+  pub fall : loss_of (get_or ys (i + 1) no_entry) ≤ loss_of (get_or ys i no_entry)
+  pub rise : weight_of (get_or ys i no_entry) ≤ weight_of (get_or ys (i + 1) no_entry)
   pub in-numerators : suc i ≤ a
   pub in-denominators : suc i ≤ b
 
-pub turn-of : (ys : List Entry) (count a b : ℕ) → Listable (lossesIn ys) (weightsIn ys) count a b → (i : ℕ) → suc i ≤ count → Turn ys i count a b
+pub turn-of : (ys : List Entry) (count a b : ℕ) → Listable (losses_in ys) (weights_in ys) count a b → (i : ℕ) → suc i ≤ count → Turn ys i count a b
 turn-of ys count a b h i p =
-    let l = h.in-losses i p in
+    let l = h.in_losses i p in
     let f = h.fall i p in
     let r = h.rise i p in
     record {
-      next-in = omega (arith, l, length-map ys lossOf);
+      next-in = omega (arith, l, length-map ys loss_of);
       fall = rw (loss-at ys i, loss-at ys (i + 1), add-one i) f;
       rise = rw (weight-at ys i, weight-at ys (i + 1), add-one i) r;
-      in-numerators = omega (arith, h.numerators-fit);
-      in-denominators = omega (arith, h.denominators-fit);
+      in-numerators = omega (arith, h.numerators_fit);
+      in-denominators = omega (arith, h.denominators_fit);
     }

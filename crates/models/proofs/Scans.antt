@@ -9,19 +9,19 @@ use lib.ListN.{length, get_or, length-map}
 use native.Mathlib.Nat.{eq-zero-or-pos}
 use lib.Dec.{eqb}
 use borrow.Author.Tests.{ne_eqb, eqb-true, eqb-false}
-use Rattle.path.specs.Model.{Lists, model, lists, model_at, pathOf}
-use Rattle.path.specs.Update.{below, fraction, holds, kept, testsMade}
+use Rattle.path.specs.Model.{Lists, model, lists, model_at, path_of}
+use Rattle.path.specs.Update.{below, fraction, holds, kept, tests_made}
 use Rattle.path.specs.Inner.{Comparable, Scannable, KeepsOf, tally_of}
 use Rattle.path.specs.declared.Kept.{Kept}
 use Rattle.path.proofs.Paths.{keeps-all, drops-last, first_holds, first-not-dropped, later-holds, keeps-nothing}
-use Rattle.models.specs.Entries.{lossesIn, weightsIn}
-use Rattle.models.specs.Inner.{noEntry, lossOf, weightOf, testAt}
+use Rattle.models.specs.Entries.{losses_in, weights_in}
+use Rattle.models.specs.Inner.{no_entry, loss_of, weight_of, test_at}
 use Rattle.models.specs.declared.Entry.{Entry}
 use Rattle.models.proofs.Neighbours.{loss-at, weight-at}
 
 module _ (ys : List Entry) (n loss weight c₀ : ℕ) where
   abbrev all : List ℕ → Lists
-  all s = lists s (lossesIn ys) (weightsIn ys)
+  all s = lists s (losses_in ys) (weights_in ys)
 
   -- No test has held: i entries are left, c tests are made, and the rest keeps what the whole path keeps.
   pub record Going (i c : ℕ) : Type 0 where
@@ -29,8 +29,8 @@ module _ (ys : List Entry) (n loss weight c₀ : ℕ) where
     pub few : i ≤ n
     pub count : c + i ≡ c₀ + n
     pub keeps : (s : List ℕ) (k : ℕ)
-        → (length (kept (pathOf (all s) i) (model k loss weight)) ≡ length (kept (pathOf (all s) n) (model k loss weight)))
-        × (c + testsMade (pathOf (all s) i) (model k loss weight) ≡ c₀ + testsMade (pathOf (all s) n) (model k loss weight))
+        → (length (kept (path_of (all s) i) (model k loss weight)) ≡ length (kept (path_of (all s) n) (model k loss weight)))
+        × (c + tests_made (path_of (all s) i) (model k loss weight) ≡ c₀ + tests_made (path_of (all s) n) (model k loss weight))
 
   -- What the scan answers once the test at place i has held, or where there is no entry.
   abbrev pub found_at : ℕ → ℕ → Kept
@@ -40,7 +40,7 @@ module _ (ys : List Entry) (n loss weight c₀ : ℕ) where
   pub record Found (i c : ℕ) : Type 0 where
     pub few : i ≤ n
     pub count : c ≤ c₀ + n
-    pub keeps : KeepsOf (lossesIn ys) (weightsIn ys) n loss weight c₀ (found_at i c)
+    pub keeps : KeepsOf (losses_in ys) (weights_in ys) n loss weight c₀ (found_at i c)
 
   -- How the scan stands where the last test came out as h.
   abbrev pub Scanning : ℕ → ℕ → Bool → Type 0
@@ -59,8 +59,8 @@ module _ (ys : List Entry) (n loss weight c₀ : ℕ) where
             keeps = λ s k.
                 let e = z refl in
                 let none = keeps-nothing (all s) (model k loss weight) e in
-                let entries : min (n + 1) n ≡ length (kept (pathOf (all s) n) (model k loss weight)) = omega (arith, none.0, e) in
-                let tests : c₀ ≡ c₀ + testsMade (pathOf (all s) n) (model k loss weight) = omega (arith, none.1) in
+                let entries : min (n + 1) n ≡ length (kept (path_of (all s) n) (model k loss weight)) = omega (arith, none.0, e) in
+                let tests : c₀ ≡ c₀ + tests_made (path_of (all s) n) (model k loss weight) = omega (arith, none.1) in
                 λ i. record { entries = entries i; tests = tally_of (tests i) };
           }
       by-test false z y =
@@ -70,13 +70,13 @@ module _ (ys : List Entry) (n loss weight c₀ : ℕ) where
 
   -- The test that is made at place a.
   abbrev pub test_of : ℕ → Bool
-  test_of a = testAt a (lossOf (get_or ys (a - 1) noEntry)) (weightOf (get_or ys (a - 1) noEntry)) (lossOf (get_or ys a noEntry)) (weightOf (get_or ys a noEntry)) loss weight
+  test_of a = test_at a (loss_of (get_or ys (a - 1) no_entry)) (weight_of (get_or ys (a - 1) no_entry)) (loss_of (get_or ys a no_entry)) (weight_of (get_or ys a no_entry)) loss weight
 
-  later : (l₀ w₀ l₁ w₁ b : ℕ) → testAt (suc b) l₀ w₀ l₁ w₁ loss weight ≡ below (fraction (l₁ - loss) (weight - w₁)) (fraction (l₀ - l₁) (w₁ - w₀))
+  later : (l₀ w₀ l₁ w₁ b : ℕ) → test_at (suc b) l₀ w₀ l₁ w₁ loss weight ≡ below (fraction (l₁ - loss) (weight - w₁)) (fraction (l₀ - l₁) (w₁ - w₀))
   later l₀ w₀ l₁ w₁ b =
       ap (λ (z : Bool). cond z true (below (fraction (l₁ - loss) (weight - w₁)) (fraction (l₀ - l₁) (w₁ - w₀)))) (ne_eqb (suc b) 0 (λ e. absurd (omega arith)))
 
-  test-is : (a : ℕ) (s : List ℕ) (k : ℕ) → test_of a ≡ holds (pathOf (all s) a) (model_at (all s) a) (model k loss weight)
+  test-is : (a : ℕ) (s : List ℕ) (k : ℕ) → test_of a ≡ holds (path_of (all s) a) (model_at (all s) a) (model k loss weight)
   test-is zero s k = sym (first_holds (all s) (model_at (all s) zero) (model k loss weight) refl)
   test-is (suc b) s k =
       let e : suc b - 1 ≡ b = omega arith in
@@ -84,15 +84,15 @@ module _ (ys : List Entry) (n loss weight c₀ : ℕ) where
       ∙ rw (e, loss-at ys b, weight-at ys b, loss-at ys (suc b), weight-at ys (suc b)) refl
       ∙ sym (later-holds (all s) (model_at (all s) (suc b)) (model k loss weight) (suc b) b refl)
 
-  module _ (can : Scannable (lossesIn ys) (weightsIn ys) n loss weight c₀) where
+  module _ (can : Scannable (losses_in ys) (weights_in ys) n loss weight c₀) where
     pub there : (a : ℕ) → a < n → a < length ys
-    there a h = omega (arith, can.in-losses, length-map ys lossOf)
+    there a h = omega (arith, can.in_losses, length-map ys loss_of)
 
     pub going-small : (i c : ℕ) → Going i c → c < 2 ^ 64
     going-small i c g = omega (arith, can.countable, g.count)
 
     pub small-place : (i c : ℕ) → Found i c → i ≤ length ys
-    small-place i c f = omega (arith, can.in-losses, length-map ys lossOf, f.few)
+    small-place i c f = omega (arith, can.in_losses, length-map ys loss_of, f.few)
 
     pub found-small : (i c : ℕ) → Found i c → c < 2 ^ 64
     found-small i c f = omega (arith, can.countable, f.count, f.few)
@@ -104,7 +104,7 @@ module _ (ys : List Entry) (n loss weight c₀ : ℕ) where
       pub countable : c + a + 1 < 2 ^ 64
       countable = omega (arith, can.countable, g.count)
 
-      pub comparable : 1 ≤ a → Comparable (lossOf (get_or ys (a - 1) noEntry)) (weightOf (get_or ys (a - 1) noEntry)) (lossOf (get_or ys a noEntry)) (weightOf (get_or ys a noEntry)) loss weight
+      pub comparable : 1 ≤ a → Comparable (loss_of (get_or ys (a - 1) no_entry)) (weight_of (get_or ys (a - 1) no_entry)) (loss_of (get_or ys a no_entry)) (weight_of (get_or ys a no_entry)) loss weight
       comparable h =
           let e : suc (a - 1) ≡ a = omega arith in
           let near = can.near (a - 1) (omega (arith, in_path)) in
@@ -120,8 +120,8 @@ module _ (ys : List Entry) (n loss weight c₀ : ℕ) where
             let m = model k loss weight in
             let held = sym (e ∙ test-is a s k) in
             let All-stay = keeps-all t m (suc a) a refl held in
-            let entries : min (a + 1) n ≡ length (kept (pathOf t n) m) = omega (arith, in_path, All-stay.0, (g.keeps s k).0) in
-            let tests : c + 1 ≡ c₀ + testsMade (pathOf t n) m = omega (arith, All-stay.1, (g.keeps s k).1) in
+            let entries : min (a + 1) n ≡ length (kept (path_of t n) m) = omega (arith, in_path, All-stay.0, (g.keeps s k).0) in
+            let tests : c + 1 ≡ c₀ + tests_made (path_of t n) m = omega (arith, All-stay.1, (g.keeps s k).1) in
             λ i. record { entries = entries i; tests = tally_of (tests i) };
       }
       goes_on false e = record {

@@ -6,22 +6,22 @@ use native.Mathlib.Omega.{arith}
 use lib.ListN.{length, set, take, drop, replicate, length-set, length-map, length-append, length-replicate, take-append-drop}
 use lib.Seq.{length-take-le}
 use Rattle.path.specs.Model.{model, lists}
-use Rattle.path.specs.Buffer.{overwritten, overwrittenTo}
+use Rattle.path.specs.Buffer.{overwritten, overwritten_to}
 use Rattle.path.proofs.Buffers.{front-grows}
-use Rattle.models.specs.Entries.{listsIn}
-use Rattle.models.specs.Inner.{entry_of, noEntry, size_of, lossOf, weightOf, storedTo}
+use Rattle.models.specs.Entries.{lists_in}
+use Rattle.models.specs.Inner.{entry_of, no_entry, size_of, loss_of, weight_of, stored_to}
 use Rattle.models.specs.declared.Entry.{Entry}
 use Rattle.models.proofs.Fronts.{map-set}
 
 -- The entries with e at place c and j entries of zeros after it.
 unfoldable pub put : List Entry → ℕ → Entry → ℕ → List Entry
 put ys c e zero = set ys c e
-put ys c e (suc j) = set (put ys c e j) (c + 1 + j) noEntry
+put ys c e (suc j) = set (put ys c e j) (c + 1 + j) no_entry
 
 pub length-put : (ys : List Entry) (c : ℕ) (e : Entry) (j : ℕ) → length (put ys c e j) ≡ length ys
 unfolding put
 length-put ys c e zero = length-set ys c e
-length-put ys c e (suc j) = length-set (put ys c e j) (c + 1 + j) noEntry ∙ length-put ys c e j
+length-put ys c e (suc j) = length-set (put ys c e j) (c + 1 + j) no_entry ∙ length-put ys c e j
 
 -- A value again and again, and once more.
 once_more : (x j : ℕ) → replicate j x ++ (x ∷ []) ≡ replicate (suc j) x
@@ -29,7 +29,7 @@ once_more x zero = refl
 once_more x (suc j) = ap (λ (zs : List ℕ). x ∷ zs) (once_more x j)
 
 -- A field of the entries, which is 0 where there is none.
-module _ (f : Entry → ℕ) (none : f noEntry ≡ 0) (ys : List Entry) (c : ℕ) (e : Entry) (there : c < length ys) where
+module _ (f : Entry → ℕ) (none : f no_entry ≡ 0) (ys : List Entry) (c : ℕ) (e : Entry) (there : c < length ys) where
   abbrev zs : List ℕ
   zs = map f ys
 
@@ -49,7 +49,7 @@ module _ (f : Entry → ℕ) (none : f noEntry ≡ 0) (ys : List Entry) (c : ℕ
   same : overwritten (take c zs) zs ≡ zs
   same = ap (λ (k : ℕ). take c zs ++ drop k zs) (length-take-le c zs (omega (arith, long))) ∙ take-append-drop c zs
 
-  front-more : (j : ℕ) → front j ++ (f noEntry ∷ []) ≡ front (suc j)
+  front-more : (j : ℕ) → front j ++ (f no_entry ∷ []) ≡ front (suc j)
   front-more j =
       ap (λ (x : ℕ). front j ++ (x ∷ [])) none
       ∙ append_assoc (take c zs ++ (f e ∷ [])) (replicate j 0) (0 ∷ [])
@@ -63,22 +63,22 @@ module _ (f : Entry → ℕ) (none : f noEntry ≡ 0) (ys : List Entry) (c : ℕ
       ∙ front-grows (take c zs) zs c (f e) (length-take-le c zs (omega (arith, long))) (omega (arith, long))
       ∙ ap (λ (l : List ℕ). overwritten l zs) (sym (append-nil (take c zs ++ (f e ∷ []))))
   put_front (suc j) h =
-      map-set f (put ys c e j) (c + 1 + j) noEntry
-      ∙ ap (λ (l : List ℕ). set l (c + 1 + j) (f noEntry)) (put_front j (omega arith))
-      ∙ front-grows (front j) zs (c + 1 + j) (f noEntry) (length_front j) (omega (arith, long))
+      map-set f (put ys c e j) (c + 1 + j) no_entry
+      ∙ ap (λ (l : List ℕ). set l (c + 1 + j) (f no_entry)) (put_front j (omega arith))
+      ∙ front-grows (front j) zs (c + 1 + j) (f no_entry) (length_front j) (omega (arith, long))
       ∙ ap (λ (l : List ℕ). overwritten l zs) (front-more j)
 
-  put-to : (n : ℕ) → n ≤ length ys → map f (put ys c e (n - (c + 1))) ≡ overwrittenTo (take c zs ++ (f e ∷ [])) n zs
+  put-to : (n : ℕ) → n ≤ length ys → map f (put ys c e (n - (c + 1))) ≡ overwritten_to (take c zs ++ (f e ∷ [])) n zs
   put-to n h =
       put_front (n - (c + 1)) (omega arith)
       ∙ ap (λ (k : ℕ). overwritten ((take c zs ++ (f e ∷ [])) ++ replicate (n - k) 0) zs) (sym length-first)
 
 -- The three lists of the entries.
 pub lists-put : (ys : List Entry) (c n u v t : ℕ) → c < length ys → n ≤ length ys
-    → listsIn (put ys c (entry_of u v t) (n - (c + 1))) ≡ storedTo c n (model u v t) (listsIn ys)
+    → lists_in (put ys c (entry_of u v t) (n - (c + 1))) ≡ stored_to c n (model u v t) (lists_in ys)
 lists-put ys c n u v t h k =
     let e = entry_of u v t in
     let s = put-to size_of refl ys c e h n k in
-    let l = put-to lossOf refl ys c e h n k in
-    let w = put-to weightOf refl ys c e h n k in
+    let l = put-to loss_of refl ys c e h n k in
+    let w = put-to weight_of refl ys c e h n k in
     λ i. lists (s i) (l i) (w i)

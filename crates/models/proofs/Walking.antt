@@ -11,13 +11,13 @@ use lib.Dec.{leb, eqb}
 use lib.ListN.{length, length-map}
 use borrow.Author.Tests.{leb-true, leb-false, ne_eqb}
 use Rattle.path.specs.Model.{Model, Lists, model_at}
-use Rattle.path.specs.Refusal.{refusalOf, maxLoss, maxWeight, validPath}
+use Rattle.path.specs.Refusal.{refusal_of, max_loss, max_weight, valid_path}
 use Rattle.path.proofs.Order.{valid-parts, ordered-within}
-use Rattle.select.specs.Penalty.{validPenalty, cost}
-use Rattle.select.specs.Select.{selectedFrom, selected, selectChecks, selectOf, entryIs, entry_at}
+use Rattle.select.specs.Penalty.{valid_penalty, cost}
+use Rattle.select.specs.Select.{selected_from, selected, select_checks, select_of, entry_is, entry_at}
 use Rattle.select.proofs.Walks.{cost-small, ends, stops, goes_on, select-refused, select-done, Selectable, selectable, accepted}
-use Rattle.models.specs.Entries.{listsIn}
-use Rattle.models.specs.InPlace.{modelIn, walk_of, aboveCosts, walkFrom, walkOn}
+use Rattle.models.specs.Entries.{lists_in}
+use Rattle.models.specs.InPlace.{model_in, walk_of, above_costs, walk_from, walk_on}
 use Rattle.models.specs.declared.Entry.{Entry}
 use Rattle.models.specs.declared.Walk.{Walk}
 
@@ -27,7 +27,7 @@ module _ (t : Lists) (n p q : ℕ) where
     pub ok : Selectable t n p q
     pub next : w.next ≡ 0
     pub end : w.end ≡ n
-    pub cost-is : w.cost ≡ aboveCosts
+    pub cost-is : w.cost ≡ above_costs
 
   -- At entry i, from which the walk ends where the whole walk does.
   pub record Stands (w : Walk) : Type 0 where
@@ -38,30 +38,30 @@ module _ (t : Lists) (n p q : ℕ) where
     pub inside : i < n
     pub cost-is : w.cost ≡ cost p q (model_at t i)
     pub found : w.found ≡ entry_at t i
-    pub goes : selectedFrom t p q i (n - suc i) ≡ selected t n p q
+    pub goes : selected_from t p q i (n - suc i) ≡ selected t n p q
 
   -- It has the answer.
   pub record Over (w : Walk) : Type 0 where
     pub none : w.end ≤ w.next
-    pub found : w.found ≡ selectOf t n p q
+    pub found : w.found ≡ select_of t n p q
 
   -- What a walk has come to.
   abbrev pub Walking : Walk → Type 0
   Walking w = Before w ⊎ (Stands w ⊎ Over w)
 
-  done_at : Selectable t n p q → (i : ℕ) → selected t n p q ≡ i → entry_at t i ≡ selectOf t n p q
+  done_at : Selectable t n p q → (i : ℕ) → selected t n p q ≡ i → entry_at t i ≡ select_of t n p q
   done_at ok i e = select-done t n p q (accepted t n p q ok) i (sym e)
 
-  pub walk_start : Walking (walkFrom (validPath t n) n p q)
+  pub walk_start : Walking (walk_from (valid_path t n) n p q)
   walk_start = ⊎_elim begun over (eq-zero-or-pos c)
     where
       c : ℕ
-      c = refusalOf (selectChecks t n p q)
+      c = refusal_of (select_checks t n p q)
 
-      begun : c ≡ 0 → Walking (walkFrom (validPath t n) n p q)
+      begun : c ≡ 0 → Walking (walk_from (valid_path t n) n p q)
       begun z = inl (record { ok = selectable t n p q z; next = refl; end = ap (λ (k : ℕ). cond (eqb k 0) n 0) z; cost-is = refl })
 
-      over : 0 < c → Walking (walkFrom (validPath t n) n p q)
+      over : 0 < c → Walking (walk_from (valid_path t n) n p q)
       over h =
           let ne : c ≡ 0 → ⊥ = λ z. omega arith in
           let z : cond (eqb c 0) n 0 ≡ 0 = ap (λ (b : Bool). cond b n 0) (ne_eqb c 0 ne) in
@@ -77,38 +77,38 @@ module _ (t : Lists) (n p q : ℕ) where
       impossible g = omega arith
 
   -- The walk at the entry that is next.
-  module _ (w : Walk) (e : Entry) (is : model_at t w.next ≡ modelIn e) (less : w.next < w.end) where
+  module _ (w : Walk) (e : Entry) (is : model_at t w.next ≡ model_in e) (less : w.next < w.end) where
     abbrev price : ℕ
-    price = cost p q (modelIn e)
+    price = cost p q (model_in e)
 
     -- What the step asks.
-    pub walk-asks : Walking w → (w.next < w.end) × (validPenalty p q ≡ true) × (e.loss ≤ maxLoss) × (e.weight ≤ maxWeight)
+    pub walk-asks : Walking w → (w.next < w.end) × (valid_penalty p q ≡ true) × (e.loss ≤ max_loss) × (e.weight ≤ max_weight)
     walk-asks h =
         let ok = walk-open w h less in
         let a = ordered-within t n w.next (valid-parts t n ok.0.valid).order (omega (arith, ok.1, less)) in
-        (less, ok.0.penalty, subst (λ (m : Model). m.loss ≤ maxLoss) is a.low, subst (λ (m : Model). m.weight ≤ maxWeight) is a.light)
+        (less, ok.0.penalty, subst (λ (m : Model). m.loss ≤ max_loss) is a.low, subst (λ (m : Model). m.weight ≤ max_weight) is a.light)
 
     abbrev stopped : Walk
     stopped = walk_of w.found w.next w.next w.cost
 
     abbrev moved : Walk
-    moved = walk_of (entryIs w.next (modelIn e)) (w.next + 1) w.end price
+    moved = walk_of (entry_is w.next (model_in e)) (w.next + 1) w.end price
 
-    at_next : (j : ℕ) → w.next ≡ j → modelIn e ≡ model_at t j
+    at_next : (j : ℕ) → w.next ≡ j → model_in e ≡ model_at t j
     at_next j h = sym is ∙ ap (model_at t) h
 
     price-at : (j : ℕ) → w.next ≡ j → price ≡ cost p q (model_at t j)
     price-at j h = ap (cost p q) (at_next j h)
 
-    found_at : (j : ℕ) → w.next ≡ j → entryIs w.next (modelIn e) ≡ entry_at t j
-    found_at j h = ap (λ (i : ℕ). entryIs i (modelIn e)) h ∙ ap (entryIs j) (at_next j h)
+    found_at : (j : ℕ) → w.next ≡ j → entry_is w.next (model_in e) ≡ entry_at t j
+    found_at j h = ap (λ (i : ℕ). entry_is i (model_in e)) h ∙ ap (entry_is j) (at_next j h)
 
     before_on : Before w → (b : Bool) → leb w.cost price ≡ b → Walking (cond b stopped moved)
     before_on h true g =
         let a = walk-asks (inl h) in
         absurd (impossible (leb-true _ _ g) h.cost-is (cost-small p q e.loss e.weight a.1 a.2 a.3))
       where
-        impossible : w.cost ≤ price → w.cost ≡ aboveCosts → price < 2 ^ 61 → ⊥
+        impossible : w.cost ≤ price → w.cost ≡ above_costs → price < 2 ^ 61 → ⊥
         impossible a b c = omega arith
     before_on h false g =
         inr (inl (record {
@@ -145,7 +145,7 @@ module _ (t : Lists) (n p q : ℕ) where
           goes = sym on ∙ h.goes;
         }))
 
-    pub walk-on : Walking w → Walking (walkOn w e p q)
+    pub walk-on : Walking w → Walking (walk_on w e p q)
     walk-on (inl h) = before_on h (leb w.cost price) refl
     walk-on (inr (inl h)) = stands_on h (leb w.cost price) refl
     walk-on (inr (inr h)) = absurd (impossible h.none)
@@ -154,14 +154,14 @@ module _ (t : Lists) (n p q : ℕ) where
         impossible g = omega arith
 
     -- It leaves fewer entries.
-    pub walk-less : (walkOn w e p q).end - (walkOn w e p q).next < w.end - w.next
+    pub walk-less : (walk_on w e p q).end - (walk_on w e p q).next < w.end - w.next
     walk-less = by-test (leb w.cost price)
       where
         by-test : (b : Bool) → (cond b stopped moved).end - (cond b stopped moved).next < w.end - w.next
         by-test true = omega arith
         by-test false = omega arith
 
-  pub walk_ends : (w : Walk) → w.end ≤ w.next → Walking w → w.found ≡ selectOf t n p q
+  pub walk_ends : (w : Walk) → w.end ≤ w.next → Walking w → w.found ≡ select_of t n p q
   walk_ends w none (inl h) = absurd (impossible h.ok.some h.next h.end)
     where
       impossible : 1 ≤ n → w.next ≡ 0 → w.end ≡ n → ⊥
@@ -171,8 +171,8 @@ module _ (t : Lists) (n p q : ℕ) where
   walk_ends w none (inr (inr h)) = h.found
 
 -- The entry that is next is one of the list's.
-pub walk-there : (ys : List Entry) (n p q : ℕ) (w : Walk) → Walking (listsIn ys) n p q w → w.next < w.end → w.next < length ys
+pub walk-there : (ys : List Entry) (n p q : ℕ) (w : Walk) → Walking (lists_in ys) n p q w → w.next < w.end → w.next < length ys
 walk-there ys n p q w h less =
-    let ok = walk-open (listsIn ys) n p q w h less in
-    let places = (valid-parts (listsIn ys) n ok.0.valid).places in
-    omega (arith, less, ok.1, places.in-sizes, length-map ys (λ (e : Entry). e.size))
+    let ok = walk-open (lists_in ys) n p q w h less in
+    let places = (valid-parts (lists_in ys) n ok.0.valid).places in
+    omega (arith, less, ok.1, places.in_sizes, length-map ys (λ (e : Entry). e.size))

@@ -7,20 +7,20 @@ use Prim.Native.Nat.{ℕ, zero, suc, ◌+◌, ◌-◌, ◌≤◌, ◌<◌}
 use native.Mathlib.Omega.{arith}
 use lib.Dec.{eqb}
 use lib.ListN.{length, get_or}
-use Rattle.path.specs.Model.{Model, model, Lists, lists, model_at, pathOf}
-use Rattle.path.specs.Update.{below, breakpoint, holds, kept, testsMade, passedOver}
-use Rattle.path.specs.Inner.{Comparable, Scannable, PassesOver, TestsLast, tally_of, keptOf}
+use Rattle.path.specs.Model.{Model, model, Lists, lists, model_at, path_of}
+use Rattle.path.specs.Update.{below, breakpoint, holds, kept, tests_made, passed_over}
+use Rattle.path.specs.Inner.{Comparable, Scannable, PassesOver, TestsLast, tally_of, kept_of}
 use Rattle.path.specs.declared.Kept.{Kept}
 use Rattle.path.specs.declared.tally.Tally.{Tally}
 use Rattle.path.proofs.Paths.{keeps-all, drops-last, first_holds, first-not-dropped, later-holds}
 
 -- After an empty path nothing is passed over, and else the last loss decides.
 pub none_passed : (losses : List ℕ) (n loss : ℕ) → n ≡ 0 → PassesOver losses n loss false
-unfolding pathOf passedOver
+unfolding path_of passed_over
 none_passed losses n loss e s w k v = rw e
 
 pub passed-by-last : (losses : List ℕ) (n b loss : ℕ) → n ≡ suc b → PassesOver losses n loss (eqb loss (get_or losses b 0))
-unfolding pathOf passedOver
+unfolding path_of passed_over
 passed-by-last losses n b loss e s w k v = rw e
 
 -- The scan of n entries has come to the first i, with so many tests made.
@@ -29,8 +29,8 @@ pub record Scanned (losses weights : List ℕ) (n loss weight start i tests : �
   pub within : i ≤ n
   pub counted : tests + i ≡ start + n
   pub keeps : (s : List ℕ) (k : ℕ)
-      → (length (kept (pathOf (lists s losses weights) i) (model k loss weight)) ≡ length (kept (pathOf (lists s losses weights) n) (model k loss weight)))
-      × (tests + testsMade (pathOf (lists s losses weights) i) (model k loss weight) ≡ start + testsMade (pathOf (lists s losses weights) n) (model k loss weight))
+      → (length (kept (path_of (lists s losses weights) i) (model k loss weight)) ≡ length (kept (path_of (lists s losses weights) n) (model k loss weight)))
+      × (tests + tests_made (path_of (lists s losses weights) i) (model k loss weight) ≡ start + tests_made (path_of (lists s losses weights) n) (model k loss weight))
 
 module _ (losses weights : List ℕ) (n loss weight start : ℕ) where
   pub scan-start : 1 ≤ n → Scanned losses weights n loss weight start n start
@@ -42,8 +42,8 @@ module _ (losses weights : List ℕ) (n loss weight start : ℕ) where
     scan-asks h = (
       at.some,
       record {
-        in-losses = omega (arith, h.in-losses, at.within);
-        in-weights = omega (arith, h.in-weights, at.within);
+        in_losses = omega (arith, h.in_losses, at.within);
+        in_weights = omega (arith, h.in_weights, at.within);
         countable = omega (arith, h.countable, at.counted);
         near = λ j p. h.near j (omega (arith, at.within));
       },
@@ -53,7 +53,7 @@ module _ (losses weights : List ℕ) (n loss weight start : ℕ) where
       -- Where it fails, the scan goes on.
       pub scan-on : r ≡ false → (more : ℕ) → more ≡ tests + 1 → Scanned losses weights n loss weight start (i - 1) more
       scan-on f more e =
-          let fails : (s : List ℕ) (k : ℕ) → holds (pathOf (lists s losses weights) (i - 1)) (model_at (lists s losses weights) (i - 1)) (model k loss weight) ≡ false = λ s k. sym (tested s k) ∙ f in
+          let fails : (s : List ℕ) (k : ℕ) → holds (path_of (lists s losses weights) (i - 1)) (model_at (lists s losses weights) (i - 1)) (model k loss weight) ≡ false = λ s k. sym (tested s k) ∙ f in
           let two = first-not-dropped (lists [] losses weights) (model 0 loss weight) (i - 1) (fails [] 0) in
           record {
             some = two;
@@ -66,14 +66,14 @@ module _ (losses weights : List ℕ) (n loss weight start : ℕ) where
 
       -- Where it holds, these entries stay.
       pub scan-ends : r ≡ true → (t : Tally) → t ≡ tally_of (tests + 1) → (s : List ℕ) (k : ℕ)
-          → record { entries = i; tests = t } ≡ keptOf (pathOf (lists s losses weights) n) (model k loss weight) start
+          → record { entries = i; tests = t } ≡ kept_of (path_of (lists s losses weights) n) (model k loss weight) start
       scan-ends h t e s k =
           let u = lists s losses weights in
           let m = model k loss weight in
           let g = keeps-all u m i (i - 1) (omega (arith, at.some)) (sym (tested s k) ∙ h) in
-          let stay : i ≡ length (kept (pathOf u n) m) = omega (arith, g.0, (at.keeps s k).0) in
-          let all : tests + 1 ≡ start + testsMade (pathOf u n) m = omega (arith, g.1, (at.keeps s k).1) in
-          let made : t ≡ tally_of (start + testsMade (pathOf u n) m) = e ∙ ap tally_of all in
+          let stay : i ≡ length (kept (path_of u n) m) = omega (arith, g.0, (at.keeps s k).0) in
+          let all : tests + 1 ≡ start + tests_made (path_of u n) m = omega (arith, g.1, (at.keeps s k).1) in
+          let made : t ≡ tally_of (start + tests_made (path_of u n) m) = e ∙ ap tally_of all in
           λ j. record { entries = stay j; tests = made j }
 
 -- The test at a first entry goes by no other.
@@ -103,8 +103,8 @@ module _ (losses weights : List ℕ) (a n : ℕ) (e : n ≡ suc a) (l₀ l₁ w�
       let near : Comparable (get_or losses a 0) (get_or weights a 0) (get_or losses (suc a) 0) (get_or weights (suc a) 0) loss weight = h.near a (omega arith) in
       let at_n : Comparable (get_or losses a 0) (get_or weights a 0) (get_or losses n 0) (get_or weights n 0) loss weight = rw e near in
       record {
-        in-losses = omega arith;
-        in-weights = omega arith;
+        in_losses = omega arith;
+        in_weights = omega arith;
         countable = omega (arith, h.countable);
         near = λ i p. by_place i p (rw (l₀-is, l₁-is, w₀-is, w₁-is) at_n);
       }

@@ -5,14 +5,14 @@ use mathlib.Core.Bool.{Bool, true, false, ◌&&◌}
 use Prim.Native.Nat.{ℕ, zero, suc, ◌≤◌, ◌<◌}
 use native.Mathlib.Omega.{arith}
 use borrow.Author.Tests.{le-leb}
-use Rattle.path.specs.Model.{Model, Lists, model_at, pathOf}
-use Rattle.path.specs.Refusal.{maxSize, maxWeight, in_range, follows, ordered}
+use Rattle.path.specs.Model.{Model, Lists, model_at, path_of}
+use Rattle.path.specs.Refusal.{max_size, max_weight, in_range, follows, ordered}
 use Rattle.path.proofs.Order.{Within, within, Before, follows-before, last-in-range}
 
 -- What bounds the entries before a model.
 pub record Small (m : Model) : Type 0 where
-  pub size : m.size ≤ maxSize
-  pub weight : m.weight ≤ maxWeight
+  pub size : m.size ≤ max_size
+  pub weight : m.weight ≤ max_weight
 
 in-range-small : (m : Model) → in_range m ≡ true → Small m
 in-range-small m h = let w = within m h in record { size = w.small; weight = w.light }
@@ -35,21 +35,21 @@ range-after d e h b s =
     })
 
 -- A path of no entry.
-pub ordered-none : (t : Lists) {n : ℕ} → n ≡ 0 → ordered (pathOf t n) ≡ true
-unfolding pathOf ordered
+pub ordered-none : (t : Lists) {n : ℕ} → n ≡ 0 → ordered (path_of t n) ≡ true
+unfolding path_of ordered
 ordered-none t e = rw e
 
-pub ordered-one : (t : Lists) {at : ℕ} → at ≡ 0 → ordered (pathOf t (suc at)) ≡ in_range (model_at t 0)
-unfolding pathOf ordered
+pub ordered-one : (t : Lists) {at : ℕ} → at ≡ 0 → ordered (path_of t (suc at)) ≡ in_range (model_at t 0)
+unfolding path_of ordered
 ordered-one t e = rw e
 
-pub last-fails : (t : Lists) (n : ℕ) → in_range (model_at t n) ≡ false → ordered (pathOf t (suc n)) ≡ false
-unfolding pathOf ordered
+pub last-fails : (t : Lists) (n : ℕ) → in_range (model_at t n) ≡ false → ordered (path_of t (suc n)) ≡ false
+unfolding path_of ordered
 last-fails t zero h = h
-last-fails t (suc n) h = ap (λ (x : Bool). x && follows (model_at t n) (model_at t (suc n)) && ordered (pathOf t (suc n))) h
+last-fails t (suc n) h = ap (λ (x : Bool). x && follows (model_at t n) (model_at t (suc n)) && ordered (path_of t (suc n))) h
 
-ordered-turn : (t : Lists) (a : ℕ) → ordered (pathOf t (suc (suc a))) ≡ (in_range (model_at t (suc a)) && follows (model_at t a) (model_at t (suc a)) && ordered (pathOf t (suc a)))
-unfolding pathOf ordered
+ordered-turn : (t : Lists) (a : ℕ) → ordered (path_of t (suc (suc a))) ≡ (in_range (model_at t (suc a)) && follows (model_at t a) (model_at t (suc a)) && ordered (path_of t (suc a)))
+unfolding path_of ordered
 ordered-turn t a = refl
 
 fails-between : (x y : Bool) → (x && false && y) ≡ false
@@ -63,17 +63,17 @@ fails-after false y = refl
 
 -- One turn, at entry b, which comes after entry a.
 module _ (t : Lists) (a b : ℕ) (e : b ≡ suc a) where
-  ordered_at : ordered (pathOf t (suc b)) ≡ (in_range (model_at t b) && follows (model_at t a) (model_at t b) && ordered (pathOf t b))
+  ordered_at : ordered (path_of t (suc b)) ≡ (in_range (model_at t b) && follows (model_at t a) (model_at t b) && ordered (path_of t b))
   ordered_at = rw e (ordered-turn t a)
 
-  pub order-fails : follows (model_at t a) (model_at t b) ≡ false → ordered (pathOf t (suc b)) ≡ false
-  order-fails h = rw (ordered_at, h) (fails-between (in_range (model_at t b)) (ordered (pathOf t b)))
+  pub order-fails : follows (model_at t a) (model_at t b) ≡ false → ordered (path_of t (suc b)) ≡ false
+  order-fails h = rw (ordered_at, h) (fails-between (in_range (model_at t b)) (ordered (path_of t b)))
 
   -- Where the two are in order, it goes by the entries up to a.
-  pub entry-passes : follows (model_at t a) (model_at t b) ≡ true → Small (model_at t b) → ordered (pathOf t (suc b)) ≡ ordered (pathOf t (suc a))
-  entry-passes h s = by-test (ordered (pathOf t (suc a))) refl
+  pub entry-passes : follows (model_at t a) (model_at t b) ≡ true → Small (model_at t b) → ordered (path_of t (suc b)) ≡ ordered (path_of t (suc a))
+  entry-passes h s = by-test (ordered (path_of t (suc a))) refl
     where
-      by-test : (o : Bool) → ordered (pathOf t (suc a)) ≡ o → ordered (pathOf t (suc b)) ≡ o
+      by-test : (o : Bool) → ordered (path_of t (suc a)) ≡ o → ordered (path_of t (suc b)) ≡ o
       by-test true g =
           let r = range-after (model_at t a) (model_at t b) (last-in-range t a g) (follows-before (model_at t a) (model_at t b) h) s in
           rw (ordered_at, r, h, e) g
@@ -82,12 +82,12 @@ module _ (t : Lists) (a b : ℕ) (e : b ≡ suc a) where
 -- The check of n entries has come to entry `at`: the entries up to it are ordered just where all are, and its size and weight are small.
 pub record Reached (t : Lists) (n at : ℕ) : Type 0 where
   pub inside : at < n
-  pub same : ordered (pathOf t (suc at)) ≡ ordered (pathOf t n)
+  pub same : ordered (path_of t (suc at)) ≡ ordered (path_of t n)
   pub small : Small (model_at t at)
 
 -- It begins at the last entry, and fails where that is out of range.
 module _ (t : Lists) (n last : ℕ) (e : n ≡ suc last) where
-  pub range-fails : in_range (model_at t last) ≡ false → ordered (pathOf t n) ≡ false
+  pub range-fails : in_range (model_at t last) ≡ false → ordered (path_of t n) ≡ false
   range-fails h = rw e (last-fails t last h)
 
   pub reached-last : in_range (model_at t last) ≡ true → Reached t n last
@@ -96,7 +96,7 @@ module _ (t : Lists) (n last : ℕ) (e : n ≡ suc last) where
 module _ (t : Lists) (n at : ℕ) (r : Reached t n at) where
   -- It goes on to the entry before, and fails where the two are not in order.
   module _ (before : ℕ) (e : at ≡ suc before) where
-    pub neighbours-fail : follows (model_at t before) (model_at t at) ≡ false → ordered (pathOf t n) ≡ false
+    pub neighbours-fail : follows (model_at t before) (model_at t at) ≡ false → ordered (path_of t n) ≡ false
     neighbours-fail h = sym r.same ∙ order-fails t before at e h
 
     pub reached-before : follows (model_at t before) (model_at t at) ≡ true → Reached t n before
@@ -108,5 +108,5 @@ module _ (t : Lists) (n at : ℕ) (r : Reached t n at) where
         }
 
   -- It ends at the first entry.
-  pub reached-first : at ≡ 0 → ordered (pathOf t n) ≡ in_range (model_at t 0)
+  pub reached-first : at ≡ 0 → ordered (path_of t n) ≡ in_range (model_at t 0)
   reached-first e = sym r.same ∙ ordered-one t e

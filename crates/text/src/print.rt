@@ -1,7 +1,7 @@
 // Printing. Each function writes a text at a place of the output, and returns the place after it.
 
 ghost use Rattle.std.specs.Prelude.{[], ◌∷◌, ◌+◌, ◌≤◌, length};
-ghost use Rattle.text.specs.Text.{digits, wholeDigits, twoText};
+ghost use Rattle.text.specs.Text.{digits, whole_digits, two_text};
 ghost use Rattle.text.specs.Inner.{Put};
 
 // Writes a text.
@@ -41,8 +41,8 @@ pub fn put_number(output: &mut [u8], at: usize, n: u64) -> usize
 
 // Writes a level in decimal.
 pub fn put_level(output: &mut [u8], at: usize, level: i16) -> usize
-    requires { at + length (wholeDigits level) ≤ length output.old }
-    ensures { Put (wholeDigits level) at output.old output.new result }
+    requires { at + length (whole_digits level) ≤ length output.old }
+    ensures { Put (whole_digits level) at output.old output.new result }
 {
     let raised = segment::raise(level) as u64;
     if raised < 32768 {
@@ -54,8 +54,8 @@ pub fn put_level(output: &mut [u8], at: usize, level: i16) -> usize
 
 // Writes two numbers with a blank between them.
 pub fn put_two(output: &mut [u8], at: usize, a: u64, b: u64) -> usize
-    requires { at + length (twoText a b) ≤ length output.old }
-    ensures { Put (twoText a b) at output.old output.new result }
+    requires { at + length (two_text a b) ≤ length output.old }
+    ensures { Put (two_text a b) at output.old output.new result }
 {
     let first = put_number(output, at, a);
     let blank = put_byte(output, first, b' ');

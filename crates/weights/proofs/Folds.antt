@@ -9,9 +9,9 @@ use native.Mathlib.Omega.{arith}
 use lib.ListN.{length, get_or, take, drop, length-append, length-take}
 use lib.Seq.{length-take-le, drop-cons, append_snoc, split_at, take_at, drop_at, get_or_at}
 use borrow.Author.Tests.{le-leb, lt-leb, ne_eqb}
-use Rattle.path.specs.Refusal.{check, refusalOf, weightInRange}
+use Rattle.path.specs.Refusal.{check, refusal_of, weight_in_range}
 use Rattle.path.proofs.Cuts.{le-or-lt}
-use Rattle.weights.specs.Weights.{allInRange, fitting, weightChecks}
+use Rattle.weights.specs.Weights.{all_in_range, fitting, weight_checks}
 use Rattle.weights.specs.Inner.{folded}
 use Rattle.weights.proofs.Steps.{some_fit}
 
@@ -20,16 +20,16 @@ and_assoc true b c = refl
 and_assoc false b c = refl
 
 -- The range of weights one after the other.
-range-append : (xs ys : List ℕ) → allInRange (xs ++ ys) ≡ (allInRange xs && allInRange ys)
-unfolding allInRange
+range-append : (xs ys : List ℕ) → all_in_range (xs ++ ys) ≡ (all_in_range xs && all_in_range ys)
+unfolding all_in_range
 range-append [] ys = refl
-range-append (x ∷ xs) ys = ap (λ (b : Bool). weightInRange x && b) (range-append xs ys) ∙ sym (and_assoc (weightInRange x) (allInRange xs) (allInRange ys))
+range-append (x ∷ xs) ys = ap (λ (b : Bool). weight_in_range x && b) (range-append xs ys) ∙ sym (and_assoc (weight_in_range x) (all_in_range xs) (all_in_range ys))
 
-range-parts : (c : ℕ) (ws : List ℕ) → allInRange ws ≡ (allInRange (take c ws) && allInRange (drop c ws))
-unfolding allInRange
+range-parts : (c : ℕ) (ws : List ℕ) → all_in_range ws ≡ (all_in_range (take c ws) && all_in_range (drop c ws))
+unfolding all_in_range
 range-parts zero ws = refl
 range-parts (suc c) [] = refl
-range-parts (suc c) (w ∷ ws) = ap (λ (b : Bool). weightInRange w && b) (range-parts c ws) ∙ sym (and_assoc (weightInRange w) (allInRange (take c ws)) (allInRange (drop c ws)))
+range-parts (suc c) (w ∷ ws) = ap (λ (b : Bool). weight_in_range w && b) (range-parts c ws) ∙ sym (and_assoc (weight_in_range w) (all_in_range (take c ws)) (all_in_range (drop c ws)))
 
 and-true : (b : Bool) → (b && true) ≡ b
 and-true true = refl
@@ -39,23 +39,23 @@ and_left : (a b : Bool) → (a && b) ≡ true → a ≡ true
 and_left true b h = refl
 and_left false b h = h
 
-range_cons : (w : ℕ) (ws : List ℕ) → allInRange (w ∷ ws) ≡ (weightInRange w && allInRange ws)
-unfolding allInRange
+range_cons : (w : ℕ) (ws : List ℕ) → all_in_range (w ∷ ws) ≡ (weight_in_range w && all_in_range ws)
+unfolding all_in_range
 range_cons w ws = refl
 
 -- The last weight that is kept is in range just where those that are cut off are.
-last-in-range : (c : ℕ) (ws : List ℕ) → c < length ws → weightInRange (cond (allInRange (drop c ws)) (get_or ws c 0) 0) ≡ allInRange (drop c ws)
-last-in-range c ws h = by-test (allInRange (drop c ws)) refl
+last-in-range : (c : ℕ) (ws : List ℕ) → c < length ws → weight_in_range (cond (all_in_range (drop c ws)) (get_or ws c 0) 0) ≡ all_in_range (drop c ws)
+last-in-range c ws h = by-test (all_in_range (drop c ws)) refl
   where
-    by-test : (b : Bool) → allInRange (drop c ws) ≡ b → weightInRange (cond b (get_or ws c 0) 0) ≡ b
+    by-test : (b : Bool) → all_in_range (drop c ws) ≡ b → weight_in_range (cond b (get_or ws c 0) 0) ≡ b
     by-test true e =
-        and_left (weightInRange (get_or ws c 0)) (allInRange (drop (suc c) ws))
-        (sym (range_cons (get_or ws c 0) (drop (suc c) ws)) ∙ ap allInRange (sym (drop-cons ws c 0 h)) ∙ e)
+        and_left (weight_in_range (get_or ws c 0)) (all_in_range (drop (suc c) ws))
+        (sym (range_cons (get_or ws c 0) (drop (suc c) ws)) ∙ ap all_in_range (sym (drop-cons ws c 0 h)) ∙ e)
     by-test false e = refl
 
-one-range : (w : ℕ) → allInRange (w ∷ []) ≡ weightInRange w
-unfolding allInRange
-one-range w = and-true (weightInRange w)
+one-range : (w : ℕ) → all_in_range (w ∷ []) ≡ weight_in_range w
+unfolding all_in_range
+one-range w = and-true (weight_in_range w)
 
 -- A list that is not as long as the limit does not fit it.
 too_long : (ws : List ℕ) (limit : ℕ) → limit < length ws → fitting ws limit ≡ false
@@ -67,21 +67,21 @@ unfolding folded
 folded-few c ws h = rw (le-leb (length ws) c h)
 
 -- A limit up to c judges the cut list as the whole.
-pub folded-checks : (c : ℕ) (ws : List ℕ) (limit : ℕ) → limit ≤ c → refusalOf (weightChecks (folded c ws) limit) ≡ refusalOf (weightChecks ws limit)
+pub folded-checks : (c : ℕ) (ws : List ℕ) (limit : ℕ) → limit ≤ c → refusal_of (weight_checks (folded c ws) limit) ≡ refusal_of (weight_checks ws limit)
 unfolding folded
 folded-checks c ws limit h =
     ⊎_elim
     (λ (few : length ws ≤ c). rw (le-leb (length ws) c few))
     (λ (many : c < length ws).
-    let z = cond (allInRange (drop c ws)) (get_or ws c 0) 0 in
+    let z = cond (all_in_range (drop c ws)) (get_or ws c 0) 0 in
     let kept = take c ws ++ (z ∷ []) in
     let long : limit < length kept = omega (arith, length-append (take c ws) (z ∷ []), length-take c ws) in
-    let range : allInRange kept ≡ allInRange ws = range-append (take c ws) (z ∷ []) ∙ ap (λ (b : Bool). allInRange (take c ws) && b) (one-range z ∙ last-in-range c ws many) ∙ sym (range-parts c ws) in
-    rw (lt-leb (length ws) c many) (λ i. refusalOf (check 5 (range i) ∷ check 14 ((too_long kept limit long ∙ sym (too_long ws limit (omega arith))) i) ∷ [])))
+    let range : all_in_range kept ≡ all_in_range ws = range-append (take c ws) (z ∷ []) ∙ ap (λ (b : Bool). all_in_range (take c ws) && b) (one-range z ∙ last-in-range c ws many) ∙ sym (range-parts c ws) in
+    rw (lt-leb (length ws) c many) (λ i. refusal_of (check 5 (range i) ∷ check 14 ((too_long kept limit long ∙ sym (too_long ws limit (omega arith))) i) ∷ [])))
     (le-or-lt (length ws) c)
 
 -- A list of more than c weights is cut after the first c, ks.
-pub folded-many : (c : ℕ) (ks : List ℕ) (w : ℕ) (ws : List ℕ) → length ks ≡ c → folded c (ks ++ (w ∷ ws)) ≡ ks ++ (cond (allInRange (w ∷ ws)) w 0 ∷ [])
+pub folded-many : (c : ℕ) (ks : List ℕ) (w : ℕ) (ws : List ℕ) → length ks ≡ c → folded c (ks ++ (w ∷ ws)) ≡ ks ++ (cond (all_in_range (w ∷ ws)) w 0 ∷ [])
 unfolding folded
 folded-many c ks w ws e =
     let long = lt-leb (length (ks ++ (w ∷ ws))) c (omega (arith, length-append ks (w ∷ ws))) in
@@ -96,7 +96,7 @@ folded-onto c xs ys =
     let ks = take c xs in
     let w = get_or xs c 0 in
     let us = drop (suc c) xs in
-    let z = cond (allInRange (w ∷ us)) w 0 in
+    let z = cond (all_in_range (w ∷ us)) w 0 in
     let kept : length ks ≡ c = length-take-le c xs (omega arith) in
     let parts : xs ≡ ks ++ (w ∷ us) = split_at xs c 0 many in
     let cut : folded c xs ≡ ks ++ (z ∷ []) = ap (folded c) parts ∙ folded-many c ks w us kept in
@@ -113,8 +113,8 @@ folded-onto c xs ys =
     by-test true u w = refl
     by-test false u w = refl
 
-    last-same : (w : ℕ) (us : List ℕ) → cond (allInRange (cond (allInRange (w ∷ us)) w 0 ∷ ys)) (cond (allInRange (w ∷ us)) w 0) 0 ≡ cond (allInRange (w ∷ (us ++ ys))) w 0
+    last-same : (w : ℕ) (us : List ℕ) → cond (all_in_range (cond (all_in_range (w ∷ us)) w 0 ∷ ys)) (cond (all_in_range (w ∷ us)) w 0) 0 ≡ cond (all_in_range (w ∷ (us ++ ys))) w 0
     last-same w us =
-        let z = cond (allInRange (w ∷ us)) w 0 in
-        let stands : weightInRange z ≡ allInRange (w ∷ us) = last-in-range 0 (w ∷ us) (omega arith) in
-        rw (range_cons z ys, stands, range-append (w ∷ us) ys) (by-test (allInRange (w ∷ us)) (allInRange ys) w)
+        let z = cond (all_in_range (w ∷ us)) w 0 in
+        let stands : weight_in_range z ≡ all_in_range (w ∷ us) = last-in-range 0 (w ∷ us) (omega arith) in
+        rw (range_cons z ys, stands, range-append (w ∷ us) ys) (by-test (all_in_range (w ∷ us)) (all_in_range ys) w)

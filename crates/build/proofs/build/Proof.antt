@@ -2,11 +2,11 @@
 use mathlib.Core.Path.{◌≡◌, ap, sym, subst, ◌∙◌}
 use lib.ListN.{length}
 use Rattle.path.specs.Model.{Lists, lists, lengths}
-use Rattle.path.specs.Refusal.{refusalOf}
+use Rattle.path.specs.Refusal.{refusal_of}
 use Rattle.path.specs.declared.PathResult.{PathResult}
-use Rattle.path.specs.Append.{pathOutcome}
-use Rattle.path.specs.Inner.{firstPlaces}
-use Rattle.build.specs.Build.{buildChecks, buildLeft}
+use Rattle.path.specs.Append.{path_outcome}
+use Rattle.path.specs.Inner.{first_places}
+use Rattle.build.specs.Build.{build_checks, build_left}
 use Rattle.build.specs.Inner.{Fillable}
 use Rattle.build.proofs.Lists.{buildable}
 use Rattle.build.proofs.Cases.{build-refused, may-copy, may-fill-copied, build-done}
@@ -24,14 +24,14 @@ lent s = lists s.args.path-sizes.now s.args.path-losses.now s.args.path-weights.
 abbrev at-start : tie.Else1 → tie.Start
 at-start c = c.before.before.before.before.before.before.before.before
 
-pass : (c : tie.Else1) → refusalOf (buildChecks (given (at-start c)) (lengths (lent (at-start c)))) ≡ 0
+pass : (c : tie.Else1) → refusal_of (build_checks (given (at-start c)) (lengths (lent (at-start c)))) ≡ 0
 pass c = sym c.before.build-refusal.ensures ∙ c.if1.false
 
 returns : tie.Need-returns
 returns c =
     let s = c.before.before.before.before.before.before.before.before.before in
     let r = c.before.before.build-refusal in
-    ap (λ (x : PathResult). pathOutcome x (lent s)) c.refuse.ensures
+    ap (λ (x : PathResult). path_outcome x (lent s)) c.refuse.ensures
     ∙ build-refused (given s) (lent s) r.result r.ensures c.before.if1.true
 
 copy-models-requires : tie.Need-copy-models-requires
@@ -54,7 +54,7 @@ returns-2 c =
     let s = at-start e in
     let n = length s.args.sizes.now in
     c.before.before.before.before.before.before.build-front.ensures
-    ∙ ap (λ (b : Lists). buildLeft (firstPlaces n b) n b) c.before.before.before.before.before.before.before.before.before.before.before.before.before.before.before.before.copy-models.ensures
+    ∙ ap (λ (b : Lists). build_left (first_places n b) n b) c.before.before.before.before.before.before.before.before.before.before.before.before.before.before.before.before.copy-models.ensures
     ∙ build-done (given s) (lent s) (pass e)
 
 pub build-spec : {M : Type 1} → statement M

@@ -2,8 +2,8 @@
 use mathlib.Core.Path.{ap, ◌∙◌}
 use Prim.Native.Nat.{ℕ}
 use Rattle.path.specs.Model.{Lists, lists}
-use Rattle.path.specs.Append.{pathLeft}
-use Rattle.path.specs.Inner.{firstPlaces}
+use Rattle.path.specs.Append.{path_left}
+use Rattle.path.specs.Inner.{first_places}
 use Rattle.path.proofs.Held.{held-left}
 use Rattle.build.specs.Build.{built}
 use borrow.Author.Rules.{rules}
@@ -16,12 +16,12 @@ returns c =
     let a = s.args in
     let n = a.count in
     let t₀ = lists a.sizes.now a.losses.now a.weights.now in
-    let path = built (firstPlaces n t₀) n in
+    let path = built (first_places n t₀) n in
     let f = c.before.before.before.before.before.before.before.before.before.before.before.before.before.before.before.before.before.fill in
     let done = c.before.before.before.before.before.before.before.clear-between.ensures in
     held-left path t₀ (lists f.new.0 f.new.1.0 f.new.1.1.0) f.result.entries n f.ensures.held s.requires.fits f.result.tests.count (lists _ _ _)
     (ap (λ (t : Lists). t.sizes) done) (ap (λ (t : Lists). t.losses) done) (ap (λ (t : Lists). t.weights) done)
-    ∙ ap (λ (tests : ℕ). pathLeft path tests n t₀) f.ensures.counted
+    ∙ ap (λ (tests : ℕ). path_left path tests n t₀) f.ensures.counted
 
 pub build-front-spec : {M : Type 1} → statement M
 build-front-spec =

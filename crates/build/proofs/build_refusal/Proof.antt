@@ -5,22 +5,22 @@ use Prim.Native.Nat.{ℕ, max}
 use lib.ListN.{length}
 use borrow.Author.Tests.{not-true, not-false}
 use Rattle.path.specs.Model.{lists}
-use Rattle.path.specs.Refusal.{refusalOf}
-use Rattle.build.specs.Build.{checksOf, buildChecks}
+use Rattle.path.specs.Refusal.{refusal_of}
+use Rattle.build.specs.Build.{checks_of, build_checks}
 use Rattle.build.proofs.Cases.{no-models, too_many, bad-list, no_room, all_pass}
 use borrow.Author.Rules.{rules}
 use Rattle.build.proofs.build_refusal.Statement.{statement}
 use Rattle.build.proofs.build_refusal.Tie as tie
 
 -- The refusal of a build of the largest number of models.
-counted : (c : tie.After-larger2) → refusalOf (checksOf (lists c.before.before.before.before.before.args.sizes.now c.before.before.before.before.before.args.losses.now
+counted : (c : tie.After-larger2) → refusal_of (checks_of (lists c.before.before.before.before.before.args.sizes.now c.before.before.before.before.before.args.losses.now
     c.before.before.before.before.before.args.weights.now) c.larger2.result
-    (c.before.before.before.before.before.args.sizes-room ∷ c.before.before.before.before.before.args.losses-room ∷ c.before.before.before.before.before.args.weights-room ∷ [])) ≡ refusalOf (buildChecks (lists c.before.before.before.before.before.args.sizes.now c.before.before.before.before.before.args.losses.now
+    (c.before.before.before.before.before.args.sizes-room ∷ c.before.before.before.before.before.args.losses-room ∷ c.before.before.before.before.before.args.weights-room ∷ [])) ≡ refusal_of (build_checks (lists c.before.before.before.before.before.args.sizes.now c.before.before.before.before.before.args.losses.now
     c.before.before.before.before.before.args.weights.now) (c.before.before.before.before.before.args.sizes-room ∷ c.before.before.before.before.before.args.losses-room ∷ c.before.before.before.before.before.args.weights-room ∷ []))
 counted c =
     let a = c.before.before.before.before.before.args in
     let given = lists a.sizes.now a.losses.now a.weights.now in
-    ap (λ (n : ℕ). refusalOf (checksOf given n (a.sizes-room ∷ a.losses-room ∷ a.weights-room ∷ []))) (c.larger2.ensures ∙ ap (λ (k : ℕ). max k (length a.weights.now)) c.before.larger.ensures)
+    ap (λ (n : ℕ). refusal_of (checks_of given n (a.sizes-room ∷ a.losses-room ∷ a.weights-room ∷ []))) (c.larger2.ensures ∙ ap (λ (k : ℕ). max k (length a.weights.now)) c.before.larger.ensures)
 
 larger-requires : tie.Need-larger-requires
 larger-requires c κs = search rules

@@ -6,9 +6,9 @@ use Prim.Native.Nat.{ℕ, ◌+◌, ◌-◌, ◌≤◌}
 use native.Mathlib.Omega.{arith}
 use lib.ListN.{length, get_or}
 use borrow.Author.Tests.{not-true, not-false}
-use Rattle.path.specs.Model.{Model, Lists, lists, model_at, pathOf}
-use Rattle.path.specs.Inner.{keptOf, firstPlaces}
-use Rattle.path.proofs.Held.{setModel}
+use Rattle.path.specs.Model.{Model, Lists, lists, model_at, path_of}
+use Rattle.path.specs.Inner.{kept_of, first_places}
+use Rattle.path.proofs.Held.{set_model}
 use Rattle.path.specs.declared.Kept.{Kept}
 use Rattle.path.specs.declared.tally.Tally.{Tally}
 use Rattle.build.specs.Build.{built}
@@ -19,7 +19,7 @@ use Rattle.build.proofs.fill.Tie as tie
 
 abbrev invariant-loop : tie.invariant-loop
 invariant-loop sizes₀ losses₀ weights₀ count entries₀ tests₀ i₀ sizes losses weights entries tests i =
-    (i ≤ count) × BuiltIn (firstPlaces count (lists sizes₀ losses₀ weights₀)) (lists sizes₀ losses₀ weights₀) (lists sizes losses weights) entries tests.count i
+    (i ≤ count) × BuiltIn (first_places count (lists sizes₀ losses₀ weights₀)) (lists sizes₀ losses₀ weights₀) (lists sizes losses weights) entries tests.count i
 
 abbrev decreases-loop : tie.decreases-loop
 decreases-loop sizes₀ losses₀ weights₀ count entries₀ tests₀ i₀ sizes losses weights entries tests i = count - i
@@ -42,7 +42,7 @@ abbrev now : tie.At-loop invariant-loop decreases-loop → Lists
 now c = lists c.loop.sizes c.loop.losses c.loop.weights
 
 abbrev models : tie.At-loop invariant-loop decreases-loop → Lists
-models c = firstPlaces (at-start c).args.count (old c)
+models c = first_places (at-start c).args.count (old c)
 
 abbrev OneMore : tie.At-loop invariant-loop decreases-loop → Lists → ℕ → ℕ → Type 0
 OneMore c t entries tests = BuiltIn (models c) (old c) t entries tests (c.loop.i + 1)
@@ -57,7 +57,7 @@ is-next c =
     still-model (built (models l) l.loop.i) (old l) (now l) l.loop.entries l.loop.i (at-start l).args.count l.loop.invariant.1.held c.loop-test.true
 
 -- What is tried keeps at most i entries, and joins the path.
-tried : (c : tie.After-try-model invariant-loop decreases-loop) → (let l = (at_turn (at_tried c)).before in c.try-model.result ≡ keptOf (pathOf (now l) l.loop.entries) (new l) l.loop.tests.count)
+tried : (c : tie.After-try-model invariant-loop decreases-loop) → (let l = (at_turn (at_tried c)).before in c.try-model.result ≡ kept_of (path_of (now l) l.loop.entries) (new l) l.loop.tests.count)
 tried c = let l = (at_turn (at_tried c)).before in c.try-model.ensures l.loop.sizes (get_or l.loop.sizes l.loop.i 0)
 
 fits : (c : tie.After-try-model invariant-loop decreases-loop) → c.try-model.result.entries ≤ (at_turn (at_tried c)).before.loop.i
@@ -67,7 +67,7 @@ fits c =
     kept-before (models l) (old l) (now l) l.loop.entries l.loop.tests.count l.loop.i l.loop.inv.1 (new l) (is-next turn)
     (at-start l).pre turn.loop-test.taken c.try-model.result.entries (ap (λ (x : Kept). x.entries) (tried c))
 
-pushed : (c : tie.After-try-model invariant-loop decreases-loop) → (let l = (at_turn (at_tried c)).before in let r = c.try-model.result in OneMore l (setModel (now l) r.entries (new l)) (r.entries + 1) r.tests.count)
+pushed : (c : tie.After-try-model invariant-loop decreases-loop) → (let l = (at_turn (at_tried c)).before in let r = c.try-model.result in OneMore l (set_model (now l) r.entries (new l)) (r.entries + 1) r.tests.count)
 pushed c =
     let turn = at_turn (at_tried c) in
     let l = turn.before in
@@ -85,14 +85,14 @@ passed c =
     (sym (c.before.passed_over.ensures l.loop.sizes l.loop.weights (new l).size (new l).weight) ∙ not-false _ c.if1.false)
 
 -- The lists have the places that they had.
-in-sizes : (c : tie.At-loop invariant-loop decreases-loop) → (at-start c).args.count ≤ length c.loop.sizes
-in-sizes c = omega (arith, c.loop.invariant.1.held.sizes.long, (at-start c).requires.fits.in-sizes)
+in_sizes : (c : tie.At-loop invariant-loop decreases-loop) → (at-start c).args.count ≤ length c.loop.sizes
+in_sizes c = omega (arith, c.loop.invariant.1.held.sizes.long, (at-start c).requires.fits.in_sizes)
 
-in-losses : (c : tie.At-loop invariant-loop decreases-loop) → (at-start c).args.count ≤ length c.loop.losses
-in-losses c = omega (arith, c.loop.invariant.1.held.losses.long, (at-start c).requires.fits.in-losses)
+in_losses : (c : tie.At-loop invariant-loop decreases-loop) → (at-start c).args.count ≤ length c.loop.losses
+in_losses c = omega (arith, c.loop.invariant.1.held.losses.long, (at-start c).requires.fits.in_losses)
 
-in-weights : (c : tie.At-loop invariant-loop decreases-loop) → (at-start c).args.count ≤ length c.loop.weights
-in-weights c = omega (arith, c.loop.invariant.1.held.weights.long, (at-start c).requires.fits.in-weights)
+in_weights : (c : tie.At-loop invariant-loop decreases-loop) → (at-start c).args.count ≤ length c.loop.weights
+in_weights c = omega (arith, c.loop.invariant.1.held.weights.long, (at-start c).requires.fits.in_weights)
 
 none-requires : tie.Need-none-requires invariant-loop decreases-loop
 none-requires c κs = tt
@@ -101,29 +101,29 @@ loop-holds : tie.Need-loop-init invariant-loop decreases-loop
 loop-holds c =
     let a = c.before.before.before.before.args in
     let t₀ = lists a.sizes.now a.losses.now a.weights.now in
-    let given = firstPlaces a.count t₀ in
+    let given = first_places a.count t₀ in
     (omega arith, subst (λ (k : ℕ). BuiltIn given t₀ t₀ 0 k 0) (sym (ap (λ (x : Tally). x.count) c.none.ensures)) (built-none given t₀))
 
 mul-size : tie.Need-overflow-mul-size invariant-loop decreases-loop
-mul-size c = omega (arith, in-sizes c.before)
+mul-size c = omega (arith, in_sizes c.before)
 
 slice-read-size : tie.Need-slice-read-size invariant-loop decreases-loop
-slice-read-size c = omega (arith, in-sizes c.before.before)
+slice-read-size c = omega (arith, in_sizes c.before.before)
 
 mul-loss : tie.Need-overflow-mul-loss invariant-loop decreases-loop
-mul-loss c = omega (arith, in-losses c.before.before)
+mul-loss c = omega (arith, in_losses c.before.before)
 
 slice-read-loss : tie.Need-slice-read-loss invariant-loop decreases-loop
-slice-read-loss c = omega (arith, in-losses c.before.before.before)
+slice-read-loss c = omega (arith, in_losses c.before.before.before)
 
 mul-weight : tie.Need-overflow-mul-weight invariant-loop decreases-loop
-mul-weight c = omega (arith, in-weights c.before.before.before)
+mul-weight c = omega (arith, in_weights c.before.before.before)
 
 slice-read-weight : tie.Need-slice-read-weight invariant-loop decreases-loop
-slice-read-weight c = omega (arith, in-weights c.before.before.before.before)
+slice-read-weight c = omega (arith, in_weights c.before.before.before.before)
 
 passed-over-requires : tie.Need-passed-over-requires invariant-loop decreases-loop
-passed-over-requires c κs = let l = c.before.before.before.before.before in omega (arith, in-losses l, l.loop.invariant.1.held.most)
+passed-over-requires c κs = let l = c.before.before.before.before.before in omega (arith, in_losses l, l.loop.invariant.1.held.most)
 
 try-model-requires : tie.Need-try-model-requires invariant-loop decreases-loop
 try-model-requires c κs =
@@ -132,22 +132,22 @@ try-model-requires c κs =
     may-try (models l) (old l) (now l) l.loop.entries l.loop.tests.count l.loop.i l.loop.inv.1 (new l) (is-next turn) (at-start l).pre turn.loop-test.taken
 
 mul-sizes : tie.Need-overflow-mul-sizes invariant-loop decreases-loop
-mul-sizes c = omega (arith, fits c, in-sizes (at_turn (at_tried c)).before)
+mul-sizes c = omega (arith, fits c, in_sizes (at_turn (at_tried c)).before)
 
 slice-write-sizes : tie.Need-slice-write-sizes invariant-loop decreases-loop
-slice-write-sizes c = omega (arith, fits c, in-sizes (at_turn (at_tried c)).before)
+slice-write-sizes c = omega (arith, fits c, in_sizes (at_turn (at_tried c)).before)
 
 mul-losses : tie.Need-overflow-mul-losses invariant-loop decreases-loop
-mul-losses c = omega (arith, fits c, in-losses (at_turn (at_tried c)).before)
+mul-losses c = omega (arith, fits c, in_losses (at_turn (at_tried c)).before)
 
 slice-write-losses : tie.Need-slice-write-losses invariant-loop decreases-loop
-slice-write-losses c = omega (arith, fits c, in-losses (at_turn (at_tried c)).before)
+slice-write-losses c = omega (arith, fits c, in_losses (at_turn (at_tried c)).before)
 
 mul-weights : tie.Need-overflow-mul-weights invariant-loop decreases-loop
-mul-weights c = omega (arith, fits c, in-weights (at_turn (at_tried c)).before)
+mul-weights c = omega (arith, fits c, in_weights (at_turn (at_tried c)).before)
 
 slice-write-weights : tie.Need-slice-write-weights invariant-loop decreases-loop
-slice-write-weights c = omega (arith, fits c, in-weights (at_turn (at_tried c)).before)
+slice-write-weights c = omega (arith, fits c, in_weights (at_turn (at_tried c)).before)
 
 add-entries : tie.Need-overflow-add-entries invariant-loop decreases-loop
 add-entries c = omega (arith, fits c, (at-start (at_turn (at_tried c)).before).pre.few)

@@ -5,22 +5,22 @@ use mathlib.Core.Bool.{Bool}
 use Prim.Native.Nat.{ℕ, ◌+◌, ◌-◌, ◌≤◌}
 use native.Mathlib.Omega.{arith}
 use borrow.Author.Tests.{not-true, not-false}
-use Rattle.path.specs.Model.{Lists, lists, model_at, pathOf}
-use Rattle.path.specs.Update.{passedOver}
-use Rattle.path.specs.Refusal.{refusalOf, modelChecks}
+use Rattle.path.specs.Model.{Lists, lists, model_at, path_of}
+use Rattle.path.specs.Update.{passed_over}
+use Rattle.path.specs.Refusal.{refusal_of, model_checks}
 use Rattle.path.specs.Inner.{HasPlaces, PassesOver}
 use Rattle.path.proofs.Order.{places-parts, places-fewer, same-checks, same-passed-over}
-use Rattle.build.specs.Build.{built, checksAt, listChecks}
+use Rattle.build.specs.Build.{built, checks_at, list_checks}
 use Rattle.build.proofs.Lists.{none_left, bad-model, good-model, lacks-value, lacks-nothing, LastEntered, none-entered, entered-before, entered-now}
 use Rattle.build.proofs.list_refusal.Statement.{statement}
 use Rattle.build.proofs.list_refusal.Tie as tie
 
 -- Whether model i is passed over goes by the last of the models entered.
-judged : (t : Lists) (i j : ℕ) → LastEntered t i j → (r : Bool) → PassesOver t.losses j (model_at t i).loss r → passedOver (built t i) (model_at t i) ≡ r
-judged t i j e r h = same-passed-over (built t i) (pathOf t j) e (model_at t i) ∙ sym (h t.sizes t.weights (model_at t i).size (model_at t i).weight)
+judged : (t : Lists) (i j : ℕ) → LastEntered t i j → (r : Bool) → PassesOver t.losses j (model_at t i).loss r → passed_over (built t i) (model_at t i) ≡ r
+judged t i j e r h = same-passed-over (built t i) (path_of t j) e (model_at t i) ∙ sym (h t.sizes t.weights (model_at t i).size (model_at t i).weight)
 
 abbrev invariant-loop : tie.invariant-loop
-invariant-loop sizes losses weights count i₀ entered₀ i entered = (entered ≤ i) × (i ≤ count) × LastEntered (lists sizes losses weights) i entered × (refusalOf (listChecks (lists sizes losses weights) i (count - i)) ≡ refusalOf (listChecks (lists sizes losses weights) 0 count))
+invariant-loop sizes losses weights count i₀ entered₀ i entered = (entered ≤ i) × (i ≤ count) × LastEntered (lists sizes losses weights) i entered × (refusal_of (list_checks (lists sizes losses weights) i (count - i)) ≡ refusal_of (list_checks (lists sizes losses weights) 0 count))
 
 abbrev decreases-loop : tie.decreases-loop
 decreases-loop sizes losses weights count i₀ entered₀ i entered = count - i
@@ -33,7 +33,7 @@ all_there c =
     places-parts given (c.before.before.before.loop.i + 1) (sym c.before.lists-have-room.ensures ∙ not-false _ c.if1.false)
 
 -- What it is refused with goes by the last of the models entered.
-answered : (c : tie.After-model-refusal invariant-loop decreases-loop) → refusalOf (checksAt (lists
+answered : (c : tie.After-model-refusal invariant-loop decreases-loop) → refusal_of (checks_at (lists
     c.before.before.before.before.before.before.before.before.before.before.before.args.sizes.now
     c.before.before.before.before.before.before.before.before.before.before.before.args.losses.now
     c.before.before.before.before.before.before.before.before.before.before.before.args.weights.now) c.before.before.before.before.before.before.before.loop.i) ≡ c.model-refusal.result
@@ -42,16 +42,16 @@ answered c =
     let given = lists a.sizes.now a.losses.now a.weights.now in
     let lp = c.before.before.before.before.before.before.before.loop in
     let m = model_at given lp.i in
-    let path = pathOf given lp.entered in
+    let path = path_of given lp.entered in
     lacks-nothing given lp.i (sym c.before.before.before.before.before.lists-have-room.ensures ∙ not-false _ c.before.before.before.before.if1.false)
     ∙ same-checks (built given lp.i) path lp.invariant.2 m
-    ∙ sym {b = refusalOf (modelChecks path m)} c.model-refusal.ensures
+    ∙ sym {b = refusal_of (model_checks path m)} c.model-refusal.ensures
 
 loop-holds : tie.Need-loop-init invariant-loop decreases-loop
 loop-holds c =
     let a = c.before.before.before.args in
     let given = lists a.sizes.now a.losses.now a.weights.now in
-    (omega arith, omega arith, none-entered given, ap (λ (m : ℕ). refusalOf (listChecks given 0 m)) (omega arith))
+    (omega arith, omega arith, none-entered given, ap (λ (m : ℕ). refusal_of (list_checks given 0 m)) (omega arith))
 
 add-next : tie.Need-overflow-add-next invariant-loop decreases-loop
 add-next c = omega arith
@@ -67,22 +67,22 @@ returns c =
     sym (bad-model given lp.i (a.count - lp.i) 5 (omega arith) (lacks-value given lp.i (sym c.before.lists-have-room.ensures ∙ not-true _ c.if1.true)) (λ e. omega arith)) ∙ lp.invariant.3
 
 mul-model-refusal : tie.Need-overflow-mul-model-refusal invariant-loop decreases-loop
-mul-model-refusal c = omega (arith, (all_there (c)).in-sizes)
+mul-model-refusal c = omega (arith, (all_there (c)).in_sizes)
 
 shared-slice-read-model-refusal : tie.Need-shared-slice-read-model-refusal invariant-loop decreases-loop
-shared-slice-read-model-refusal c = omega (arith, (all_there c.before).in-sizes)
+shared-slice-read-model-refusal c = omega (arith, (all_there c.before).in_sizes)
 
 mul-model-refusal-2 : tie.Need-overflow-mul-model-refusal-2 invariant-loop decreases-loop
-mul-model-refusal-2 c = omega (arith, (all_there c.before).in-losses)
+mul-model-refusal-2 c = omega (arith, (all_there c.before).in_losses)
 
 shared-slice-read-model-refusal-2 : tie.Need-shared-slice-read-model-refusal-2 invariant-loop decreases-loop
-shared-slice-read-model-refusal-2 c = omega (arith, (all_there c.before.before).in-losses)
+shared-slice-read-model-refusal-2 c = omega (arith, (all_there c.before.before).in_losses)
 
 mul-model-refusal-3 : tie.Need-overflow-mul-model-refusal-3 invariant-loop decreases-loop
-mul-model-refusal-3 c = omega (arith, (all_there c.before.before).in-weights)
+mul-model-refusal-3 c = omega (arith, (all_there c.before.before).in_weights)
 
 shared-slice-read-model-refusal-3 : tie.Need-shared-slice-read-model-refusal-3 invariant-loop decreases-loop
-shared-slice-read-model-refusal-3 c = omega (arith, (all_there c.before.before.before).in-weights)
+shared-slice-read-model-refusal-3 c = omega (arith, (all_there c.before.before.before).in_weights)
 
 model-refusal-requires : tie.Need-model-refusal-requires invariant-loop decreases-loop
 model-refusal-requires c κs =
@@ -98,13 +98,13 @@ returns-2 c =
     sym (bad-model given lp.i (a.count - lp.i) r.result (omega arith) (answered c.before) c.if2.true) ∙ lp.invariant.3
 
 mul-passed-over : tie.Need-overflow-mul-passed-over invariant-loop decreases-loop
-mul-passed-over c = omega (arith, (all_there c.before.before.before.before.before).in-losses)
+mul-passed-over c = omega (arith, (all_there c.before.before.before.before.before).in_losses)
 
 shared-slice-read-passed-over : tie.Need-shared-slice-read-passed-over invariant-loop decreases-loop
-shared-slice-read-passed-over c = omega (arith, (all_there c.before.before.before.before.before.before).in-losses)
+shared-slice-read-passed-over c = omega (arith, (all_there c.before.before.before.before.before.before).in_losses)
 
 passed-over-requires : tie.Need-passed-over-requires invariant-loop decreases-loop
-passed-over-requires c κs = omega (arith, (all_there c.before.before.before.before.before.before).in-losses, c.before.before.before.before.before.before.before.before.before.loop.invariant.0)
+passed-over-requires c κs = omega (arith, (all_there c.before.before.before.before.before.before).in_losses, c.before.before.before.before.before.before.before.before.before.loop.invariant.0)
 
 loop-less : tie.Need-loop-smaller invariant-loop decreases-loop
 loop-less c = omega arith

@@ -3,11 +3,11 @@ use mathlib.Core.Path.{◌≡◌, ap, ◌∙◌}
 use native.Mathlib.Omega.{arith}
 use Prim.Native.Nat.{ℕ, ◌+◌}
 use Rattle.coding.specs.Coding.{outcome}
-use Rattle.coding.specs.Models.{modelsCoding}
+use Rattle.coding.specs.Models.{models_coding}
 use Rattle.coding.proofs.Calls.{eleven, whole-strings}
 use Rattle.path.specs.Model.{lists}
 use Rattle.select.specs.declared.BreakpointsResult.{BreakpointsResult}
-use Rattle.byte_paths.specs.Paths.{fractions, fractionsCoding, breakpointsAnswers, breakpointsCall}
+use Rattle.byte_paths.specs.Paths.{fractions, fractions_coding, breakpoints_answers, breakpoints_call}
 use borrow.Author.Rules.{rules}
 use Rattle.byte_paths.proofs.breakpoints.Statement.{statement}
 use Rattle.byte_paths.proofs.breakpoints.Tie as tie
@@ -22,7 +22,7 @@ returns c =
     let x = lists a.sizes.now a.losses.now a.weights.now in
     let lent = fractions a.numerators.now a.denominators.now in
     ap (λ (r : BreakpointsResult). outcome r lent) c.refuse-listing.ensures
-    ∙ eleven modelsCoding fractionsCoding breakpointsAnswers (breakpointsCall a.entries) x lent (λ e. c.before.if1.true (omega arith))
+    ∙ eleven models_coding fractions_coding breakpoints_answers (breakpoints_call a.entries) x lent (λ e. c.before.if1.true (omega arith))
 
 breakpoints-whole-requires : tie.Need-breakpoints-whole-requires
 breakpoints-whole-requires c κs = none_over _ _ _ _ _ c.before.before.if1.false
@@ -35,7 +35,7 @@ returns-2 c =
     let x = lists a.sizes.now a.losses.now a.weights.now in
     let lent = fractions a.numerators.now a.denominators.now in
     w.breakpoints-whole.ensures
-    ∙ whole-strings modelsCoding fractionsCoding breakpointsAnswers (breakpointsCall a.entries) x lent (none_over _ _ _ _ _ e.if1.false)
+    ∙ whole-strings models_coding fractions_coding breakpoints_answers (breakpoints_call a.entries) x lent (none_over _ _ _ _ _ e.if1.false)
 
 pub breakpoints-spec : {M : Type 1} → statement M
 breakpoints-spec =

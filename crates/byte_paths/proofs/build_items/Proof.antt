@@ -2,16 +2,16 @@
 -- the lists are written to the buffers.
 use mathlib.Core.Path.{◌≡◌, refl, ap, ◌∙◌}
 use lib.ListN.{length}
-use Rattle.coding.specs.Models.{modelsCoding}
-use Rattle.coding.proofs.Models.{modelsCut, models-held, models-fit, models-hold}
+use Rattle.coding.specs.Models.{models_coding}
+use Rattle.coding.proofs.Models.{models_cut, models-held, models-fit, models-hold}
 use Rattle.coding.proofs.Calls.{strings-stay, strings-written}
 use Rattle.path.specs.Model.{Lists, lists, lengths}
-use Rattle.path.specs.Append.{pathOutcome}
-use Rattle.path.specs.Inner.{firstPlaces}
+use Rattle.path.specs.Append.{path_outcome}
+use Rattle.path.specs.Inner.{first_places}
 use Rattle.build.specs.Build.{count_of}
-use Rattle.quadratic.specs.Inner.{withinBy}
-use Rattle.byte_paths.specs.Paths.{pathAnswers, buildCall}
-use Rattle.byte_paths.specs.Inner.{modelsRead}
+use Rattle.quadratic.specs.Inner.{within_by}
+use Rattle.byte_paths.specs.Paths.{path_answers, build_call}
+use Rattle.byte_paths.specs.Inner.{models_read}
 use Rattle.byte_paths.proofs.PathCuts.{build-read, build-refused, build-accepted, build-fits}
 use borrow.Author.Rules.{rules}
 use Rattle.byte_paths.proofs.build_items.Statement.{statement}
@@ -32,7 +32,7 @@ abbrev lent : tie.Start → Lists
 lent s = lists s.args.path-sizes.now s.args.path-losses.now s.args.path-weights.now
 
 abbrev first : tie.Start → Lists
-first s = firstPlaces modelsRead (modelsCoding.numbers (given s))
+first s = first_places models_read (models_coding.numbers (given s))
 
 abbrev read : tie.After-read-models → Lists
 read c = let t = c.read-models.new.1.1.1 in lists t.0 t.1.0 t.1.1.0
@@ -45,10 +45,10 @@ read_is c =
     let s = at-start c in
     let r = c.read-models.ensures in
     let items = lists s.args.size-items.now s.args.loss-items.now s.args.weight-items.now in
-    (λ i. lists (r.sizes-are i) (r.losses-are i) (r.weights-are i))
-    ∙ (modelsCut modelsRead).reads (given s) items (models-fit (given s) s.pre.given items refl refl refl)
+    (λ i. lists (r.sizes_are i) (r.losses_are i) (r.weights_are i))
+    ∙ (models_cut models_read).reads (given s) items (models-fit (given s) s.pre.given items refl refl refl)
 
-made-is : (c : tie.After-build-within) → (let s = at-start (at_read c) in pathOutcome c.build-within.result (left c) ≡ withinBy s.args.older (first s) (lengths (modelsCoding.numbers (lent s))))
+made-is : (c : tie.After-build-within) → (let s = at-start (at_read c) in path_outcome c.build-within.result (left c) ≡ within_by s.args.older (first s) (lengths (models_coding.numbers (lent s))))
 made-is c =
     let r = at_read c in
     let s = at-start r in
@@ -74,7 +74,7 @@ returns : tie.Need-returns
 returns c =
     let m = c.before.before.before.before.before.before.before.before in
     let s = at-start (at_read m) in
-    strings-stay modelsCoding modelsCoding pathAnswers (buildCall s.args.older) (given s) (lent s) s.pre.whole m.build-within.result c.if1.true
+    strings-stay models_coding models_coding path_answers (build_call s.args.older) (given s) (lent s) s.pre.whole m.build-within.result c.if1.true
     (build-refused s.args.older (given s) (lent s) _ (made-is m) c.if1.true)
 
 encode-models-requires : tie.Need-encode-models-requires
@@ -92,12 +92,12 @@ returns-2 c =
     let s = at-start (at_read m) in
     let k = (at_read m).before.before.before.before.before.before.before in
     let fit = build-fits s.args.older (given s) (lent s) _ (made-is m) e.if1.false in
-    strings-written modelsCoding modelsCoding pathAnswers (buildCall s.args.older) (given s) (lent s) s.pre.whole m.build-within.result e.if1.false
+    strings-written models_coding models_coding path_answers (build_call s.args.older) (given s) (lent s) s.pre.whole m.build-within.result e.if1.false
     (models-held (lent s) k.before.before.slice-known.given k.before.slice-known2.given k.slice-known3.given)
-    (modelsCut (count_of (first s))) (left m)
+    (models_cut (count_of (first s))) (left m)
     (build-accepted s.args.older (given s) (lent s) _ (made-is m) e.if1.false)
     (models-fit (lent s) fit (left m) (long-sizes m) (long-losses m) (long-weights m))
-    _ (λ i. lists (w.sizes-are i) (w.losses-are i) (w.weights-are i))
+    _ (λ i. lists (w.sizes_are i) (w.losses_are i) (w.weights_are i))
 
 pub build-items-spec : {M : Type 1} → statement M
 build-items-spec =

@@ -3,15 +3,15 @@ use mathlib.Core.Path.{◌≡◌, ap, sym, ◌∙◌}
 use Prim.Native.Nat.{◌+◌, ◌-◌}
 use native.Mathlib.Omega.{arith}
 use Rattle.coding.specs.Coding.{Outcome, none}
-use Rattle.coding.specs.Models.{modelsCoding}
+use Rattle.coding.specs.Models.{models_coding}
 use Rattle.coding.proofs.Calls.{eleven, whole-strings}
 use Rattle.path.specs.Model.{Model, Lists, lists}
-use Rattle.path.specs.Refusal.{refusalOf}
+use Rattle.path.specs.Refusal.{refusal_of}
 use Rattle.path.proofs.Order.{valid-parts, places-fewer}
-use Rattle.select.specs.Select.{selectChecks, entryIs, selectOf}
+use Rattle.select.specs.Select.{select_checks, entry_is, select_of}
 use Rattle.select.specs.declared.SelectResult.{SelectResult}
 use Rattle.select.proofs.Walks.{walkable, Selectable, selectable, selected-within, selecting-checks, select-refused, select-done}
-use Rattle.byte_paths.specs.Paths.{selectAnswers, selectCall, selectBytesOf}
+use Rattle.byte_paths.specs.Paths.{select_answers, select_call, select_bytes_of}
 use borrow.Author.Rules.{rules}
 use Rattle.byte_paths.proofs.select.Statement.{statement}
 use Rattle.byte_paths.proofs.select.Tie as tie
@@ -24,18 +24,18 @@ abbrev strings : tie.Start → Lists
 strings s = lists s.args.sizes.now s.args.losses.now s.args.weights.now
 
 abbrev given : tie.Start → Lists
-given s = modelsCoding.numbers (strings s)
+given s = models_coding.numbers (strings s)
 
 -- With no byte left over it is the selection from the numbers.
-on-numbers : (c : tie.After-select-refusal) → selectOf (given (at-start c)) (at-start c).args.entries (at-start c).args.p (at-start c).args.q ≡ selectBytesOf (strings (at-start c)) (at-start c).args.entries (at-start c).args.p (at-start c).args.q
+on-numbers : (c : tie.After-select-refusal) → select_of (given (at-start c)) (at-start c).args.entries (at-start c).args.p (at-start c).args.q ≡ select_bytes_of (strings (at-start c)) (at-start c).args.entries (at-start c).args.p (at-start c).args.q
 on-numbers c =
     let s = at-start c in
     let a = s.args in
     ap (λ (o : Outcome SelectResult none.Strings). o.answer)
-    (whole-strings modelsCoding none selectAnswers (selectCall a.entries a.p a.q) (strings s) tt (omega (arith, c.before.before.if1.false)))
+    (whole-strings models_coding none select_answers (select_call a.entries a.p a.q) (strings s) tt (omega (arith, c.before.before.if1.false)))
 
 -- The refusal is that of the call's checks.
-refusal : (c : tie.After-select-refusal) → c.select-refusal.result ≡ refusalOf (selectChecks (given (at-start c)) (at-start c).args.entries (at-start c).args.p (at-start c).args.q)
+refusal : (c : tie.After-select-refusal) → c.select-refusal.result ≡ refusal_of (select_checks (given (at-start c)) (at-start c).args.entries (at-start c).args.p (at-start c).args.q)
 refusal c =
     let s = at-start c in
     let a = s.args in
@@ -52,7 +52,7 @@ returns c =
     let a = s.args in
     c.refuse-selection.ensures
     ∙ ap (λ (o : Outcome SelectResult none.Strings). o.answer)
-    (eleven modelsCoding none selectAnswers (selectCall a.entries a.p a.q) (strings s) tt (λ e. c.before.if1.true (omega arith)))
+    (eleven models_coding none select_answers (select_call a.entries a.p a.q) (strings s) tt (λ e. c.before.if1.true (omega arith)))
 
 returns-2 : tie.Need-returns-2
 returns-2 c =
@@ -81,7 +81,7 @@ returns-3 c =
     let r = w.before.before in
     let s = at-start r in
     let a = s.args in
-    ap (λ (m : Model). entryIs w.walk.result m) c.entry_at.ensures
+    ap (λ (m : Model). entry_is w.walk.result m) c.entry_at.ensures
     ∙ select-done (given s) a.entries a.p a.q (sym (refusal r) ∙ w.before.if2.false) w.walk.result (w.walk.ensures (given s).sizes)
     ∙ on-numbers r
 

@@ -3,9 +3,9 @@ use mathlib.Core.Path.{refl, ap, ◌∙◌}
 use Rattle.coding.proofs.Models.{models-held, models-fit, models-hold}
 use Rattle.coding.proofs.Calls.{returned}
 use Rattle.path.specs.Model.{lists}
-use Rattle.signal.specs.SignalPath.{pathBuffers}
-use Rattle.byte_signals.specs.Signals.{signalStrings, signalNumbers, signalPathAnswers, signalPathTold, signalPathCall}
-use Rattle.byte_signals.proofs.SignalPaths.{signalCut, pathCut, signal-path-cut}
+use Rattle.signal.specs.SignalPath.{path_buffers}
+use Rattle.byte_signals.specs.Signals.{signal_strings, signal_numbers, signal_path_answers, signal_path_told, signal_path_call}
+use Rattle.byte_signals.proofs.SignalPaths.{signal_cut, path_cut, signal-path-cut}
 use borrow.Author.Rules.{rules}
 use Rattle.byte_signals.proofs.path_items.Statement.{statement}
 use Rattle.byte_signals.proofs.path_items.Tie as tie
@@ -13,7 +13,7 @@ use Rattle.byte_signals.proofs.path_items.Tie as tie
 read-weights-requires : tie.Need-read-weights-requires
 read-weights-requires c κs =
     let start = c.before.before.before.before.before.before.before.before.before.before.before.before.before.before in
-    start.requires.input.weights-fit
+    start.requires.input.weights_fit
 
 read-models-requires : tie.Need-read-models-requires
 read-models-requires c κs =
@@ -64,19 +64,19 @@ returns c =
     let items = lists a.size-items.now a.loss-items.now a.path-weight-items.now in
     let left = lists after.0 after.1.0 after.1.1.0 in
     let strings = lists a.path-sizes.now a.path-losses.now a.path-weights.now in
-    let read = signalNumbers a.sample-items.now a.weight-items.now in
-    let call = signalPathCall a.max-segments a.min-segment-len in
-    let input = signalStrings a.samples.now a.weights.now in
-    returned signalCut pathCut signalPathAnswers call input (pathBuffers strings a.scratch.now) pre.whole
+    let read = signal_numbers a.sample-items.now a.weight-items.now in
+    let call = signal_path_call a.max-segments a.min-segment-len in
+    let input = signal_strings a.samples.now a.weights.now in
+    returned signal_cut path_cut signal_path_answers call input (path_buffers strings a.scratch.now) pre.whole
     (models-held strings at-slice-known.slice-known.given at-slice-known2.slice-known2.given at-slice-known3.slice-known3.given, tt)
     (signal-path-cut a.max-segments a.min-segment-len _ _) read
-    (pathBuffers items a.scratch.now) (pathBuffers left after.1.1.1.0) made.result
-    (ap signalPathTold made.ensures.0
-    ∙ (λ i. call (signalNumbers (at-read-i16s.read-i16s.ensures i) (at-read-weights.read-weights.ensures i))
-    (pathBuffers (lists (models.ensures.sizes-are i) (models.ensures.losses-are i) (models.ensures.weights-are i)) a.scratch.now)))
-    (pre.input.samples-fit, tt) (models-fit strings pre.fit items refl refl refl, tt)
+    (path_buffers items a.scratch.now) (path_buffers left after.1.1.1.0) made.result
+    (ap signal_path_told made.ensures.0
+    ∙ (λ i. call (signal_numbers (at-read-i16s.read-i16s.ensures i) (at-read-weights.read-weights.ensures i))
+    (path_buffers (lists (models.ensures.sizes_are i) (models.ensures.losses_are i) (models.ensures.weights_are i)) a.scratch.now)))
+    (pre.input.samples_fit, tt) (models-fit strings pre.fit items refl refl refl, tt)
     (models-fit strings pre.fit left (stays.0 ∙ long.0) (stays.1.0 ∙ long.1.0) (stays.1.1.0 ∙ long.1.1.0), tt)
-    _ (λ i. pathBuffers (lists (written.sizes-are i) (written.losses-are i) (written.weights-are i)) after.1.1.1.0)
+    _ (λ i. path_buffers (lists (written.sizes_are i) (written.losses_are i) (written.weights_are i)) after.1.1.1.0)
 
 pub path-items-spec : {M : Type 1} → statement M
 path-items-spec =

@@ -6,7 +6,7 @@ use Prim.Native.Nat.{ℕ}
 use native.Mathlib.Omega.{arith}
 use lib.ListN.{length, set}
 use borrow.Author.Tests.{not-true, not-false}
-use Rattle.least.specs.Segmentation.{maxSegments}
+use Rattle.least.specs.Segmentation.{max_segments}
 use Rattle.byte_signals.proofs.WeightCuts.{few-kept, all-kept, last-spoilt}
 use borrow.Author.Rules.{rules}
 use Rattle.byte_signals.proofs.read_weights.Statement.{statement}
@@ -26,7 +26,7 @@ returns-2 c =
     let a = c.before.before.before.before.before.before.before.before.before.args in
     let r = c.before.before.before.before.before.read-items in
     let out = sym c.before.rest-in-range.ensures ∙ not-true _ c.if2.true in
-    ap (λ (xs : List ℕ). set xs maxSegments 0) r.ensures
+    ap (λ (xs : List ℕ). set xs max_segments 0) r.ensures
     ∙ last-spoilt a.weights.now (length a.items.now) c.before.before.before.before.before.before.before.before.before.requires (omega (arith, c.before.before.if1.false, r.auto.1.1.0)) out
 
 returns-3 : tie.Need-returns-3

@@ -8,15 +8,15 @@ use lib.ListN.{length, drop}
 use borrow.Author.Tests.{not-true, not-false}
 use Rattle.layout.specs.Item.{item}
 use Rattle.layout.specs.Items.{items_of}
-use Rattle.path.specs.Refusal.{weightInRange}
-use Rattle.least.specs.Segmentation.{maxSegments}
-use Rattle.weights.specs.Weights.{allInRange}
+use Rattle.path.specs.Refusal.{weight_in_range}
+use Rattle.least.specs.Segmentation.{max_segments}
+use Rattle.weights.specs.Weights.{all_in_range}
 use Rattle.byte_signals.proofs.WeightCuts.{rest-turn, rest_end}
 use Rattle.byte_signals.proofs.rest_in_range.Statement.{statement}
 use Rattle.byte_signals.proofs.rest_in_range.Tie as tie
 
 abbrev invariant-loop : tie.invariant-loop
-invariant-loop weights count i₀ i = (count ≡ length weights / 2) × (allInRange (drop i (items_of 2 weights)) ≡ allInRange (drop maxSegments (items_of 2 weights)))
+invariant-loop weights count i₀ i = (count ≡ length weights / 2) × (all_in_range (drop i (items_of 2 weights)) ≡ all_in_range (drop max_segments (items_of 2 weights)))
 
 abbrev decreases-loop : tie.decreases-loop
 decreases-loop weights count i₀ i = count - i
@@ -33,7 +33,7 @@ returns c =
     let lp = c.before.before.before.before.loop in
     let r = c.before.weight-in-range in
     let value = c.before.before.get.ensures in
-    let out : weightInRange (item 2 ws (2 * lp.i)) ≡ false = rw value at (sym r.ensures ∙ not-true _ c.if1.true) in
+    let out : weight_in_range (item 2 ws (2 * lp.i)) ≡ false = rw value at (sym r.ensures ∙ not-true _ c.if1.true) in
     sym (sym lp.invariant.1 ∙ rest-turn ws lp.i (omega arith) ∙ rw out)
 
 loop-again : tie.Need-loop-preserved invariant-loop decreases-loop
@@ -42,7 +42,7 @@ loop-again c =
     let lp = c.before.before.before.before.loop in
     let r = c.before.weight-in-range in
     let value = c.before.before.get.ensures in
-    let passes : weightInRange (item 2 ws (2 * lp.i)) ≡ true = rw value at (sym r.ensures ∙ not-false _ c.if1.false) in
+    let passes : weight_in_range (item 2 ws (2 * lp.i)) ≡ true = rw value at (sym r.ensures ∙ not-false _ c.if1.false) in
     (lp.invariant.0, sym (rest-turn ws lp.i (omega arith) ∙ rw passes) ∙ lp.invariant.1)
 
 returns-2 : tie.Need-returns-2 invariant-loop decreases-loop

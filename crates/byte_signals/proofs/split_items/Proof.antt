@@ -5,26 +5,26 @@ use Rattle.coding.proofs.Strings.{bytes-held}
 use Rattle.coding.proofs.Models.{models-held, models-fit, models-hold}
 use Rattle.coding.proofs.Calls.{returned}
 use Rattle.path.specs.Model.{lists}
-use Rattle.signal.specs.Split.{splitBuffers}
-use Rattle.byte_signals.specs.Signals.{signalStrings, signalNumbers, splitStrings, splitAnswers, splitTold, splitCall}
-use Rattle.byte_signals.proofs.SignalPaths.{signalCut}
-use Rattle.byte_signals.proofs.Splits.{splitCut, split-cut}
+use Rattle.signal.specs.Split.{split_buffers}
+use Rattle.byte_signals.specs.Signals.{signal_strings, signal_numbers, split_strings, split_answers, split_told, split_call}
+use Rattle.byte_signals.proofs.SignalPaths.{signal_cut}
+use Rattle.byte_signals.proofs.Splits.{split_cut, split-cut}
 use borrow.Author.Rules.{rules}
 use Rattle.byte_signals.proofs.split_items.Statement.{statement}
 use Rattle.byte_signals.proofs.split_items.Tie as tie
 
 read-i16s-requires : tie.Need-read-i16s-requires
-read-i16s-requires c κs = omega (arith, c.before.before.before.before.before.before.before.before.before.before.before.before.before.before.requires.input.samples-fit)
+read-i16s-requires c κs = omega (arith, c.before.before.before.before.before.before.before.before.before.before.before.before.before.before.requires.input.samples_fit)
 
 read-weights-requires : tie.Need-read-weights-requires
 read-weights-requires c κs =
     let start = c.before.before.before.before.before.before.before.before.before.before.before.before.before.before.before.before.before in
-    start.requires.input.weights-fit
+    start.requires.input.weights_fit
 
 read-segments-requires : tie.Need-read-segments-requires
 read-segments-requires c κs =
     let start = c.before.before.before.before.before.before.before.before.before.before.before.before.before.before.before.before.before.before.before.before.before.before.before.before in
-    record { first-has = omega (arith, start.requires.starts_fit); second-has = omega (arith, start.requires.levels-fit) }
+    record { first_has = omega (arith, start.requires.starts_fit); second_has = omega (arith, start.requires.levels_fit) }
 
 read-models-requires : tie.Need-read-models-requires
 read-models-requires c κs =
@@ -41,8 +41,8 @@ encode-segments-requires c κs =
     let segments = at-read-segments.read-segments.auto.1.1 in
     let pre = start.requires in
     record {
-      first-has = omega (arith, pre.starts_fit, made.0, segments.0);
-      second-has = omega (arith, pre.levels-fit, made.1.0, segments.1.0);
+      first_has = omega (arith, pre.starts_fit, made.0, segments.0);
+      second_has = omega (arith, pre.levels_fit, made.1.0, segments.1.0);
     }
 
 encode-models-requires : tie.Need-encode-models-requires
@@ -124,11 +124,11 @@ returns c =
     let items = lists a.size-items.now a.loss-items.now a.path-weight-items.now in
     let left = lists after.1.1.0 after.1.1.1.0 after.1.1.1.1.0 in
     let strings = lists a.path-sizes.now a.path-losses.now a.path-weights.now in
-    let read = signalNumbers a.sample-items.now a.weight-items.now in
-    let call = splitCall a.max-segments a.min-segment-len a.p a.q in
-    let input = signalStrings a.samples.now a.weights.now in
-    let lent = splitStrings a.starts.now a.levels.now strings a.scratch.now in
-    returned signalCut splitCut splitAnswers call input lent pre.whole (
+    let read = signal_numbers a.sample-items.now a.weight-items.now in
+    let call = split_call a.max-segments a.min-segment-len a.p a.q in
+    let input = signal_strings a.samples.now a.weights.now in
+    let lent = split_strings a.starts.now a.levels.now strings a.scratch.now in
+    returned signal_cut split_cut split_answers call input lent pre.whole (
       bytes-held a.starts.now at-slice-known.slice-known.given,
       (
         bytes-held a.levels.now at-slice-known2.slice-known2.given,
@@ -136,21 +136,21 @@ returns c =
       ),
     )
     (split-cut a.max-segments a.min-segment-len a.p a.q _ _) read
-    (splitBuffers a.start-items.now a.level-items.now items a.scratch.now)
-    (splitBuffers after.0 after.1.0 left after.1.1.1.1.1.0) made.result
-    (ap splitTold made.ensures.0
-    ∙ (λ i. call (signalNumbers (at-read-i16s.read-i16s.ensures i) (at-read-weights.read-weights.ensures i))
-    (splitBuffers (segments.ensures.starts-are i) (segments.ensures.levels-are i)
-    (lists (models.ensures.sizes-are i) (models.ensures.losses-are i) (models.ensures.weights-are i)) a.scratch.now)))
-    (pre.input.samples-fit, tt) (pre.starts_fit, (pre.levels-fit, (models-fit strings pre.fit items refl refl refl, tt))) (
+    (split_buffers a.start-items.now a.level-items.now items a.scratch.now)
+    (split_buffers after.0 after.1.0 left after.1.1.1.1.1.0) made.result
+    (ap split_told made.ensures.0
+    ∙ (λ i. call (signal_numbers (at-read-i16s.read-i16s.ensures i) (at-read-weights.read-weights.ensures i))
+    (split_buffers (segments.ensures.starts_are i) (segments.ensures.levels_are i)
+    (lists (models.ensures.sizes_are i) (models.ensures.losses_are i) (models.ensures.weights_are i)) a.scratch.now)))
+    (pre.input.samples_fit, tt) (pre.starts_fit, (pre.levels_fit, (models-fit strings pre.fit items refl refl refl, tt))) (
       stays.0 ∙ segments.auto.1.1.0 ∙ pre.starts_fit,
       (
-        stays.1.0 ∙ segments.auto.1.1.1.0 ∙ pre.levels-fit,
+        stays.1.0 ∙ segments.auto.1.1.1.0 ∙ pre.levels_fit,
         (models-fit strings pre.fit left (stays.1.1.0 ∙ long.0) (stays.1.1.1.0 ∙ long.1.0) (stays.1.1.1.1.0 ∙ long.1.1.0), tt),
       ),
     )
     _
-    (λ i. splitStrings (v.starts-are i) (v.levels-are i) (lists (w.sizes-are i) (w.losses-are i) (w.weights-are i)) after.1.1.1.1.1.0)
+    (λ i. split_strings (v.starts_are i) (v.levels_are i) (lists (w.sizes_are i) (w.losses_are i) (w.weights_are i)) after.1.1.1.1.1.0)
 
 pub split-items-spec : {M : Type 1} → statement M
 split-items-spec =

@@ -5,10 +5,10 @@ use mir.Facts.{to_z-of_z}
 use Rattle.coding.proofs.Models.{models-held, models-fit, models-hold}
 use Rattle.coding.proofs.Calls.{returned}
 use Rattle.path.specs.Model.{lists}
-use Rattle.stream.specs.Extend.{streamBuffers}
-use Rattle.byte_signals.proofs.SignalPaths.{samplesCut}
-use Rattle.byte_streams.specs.Streams.{extendAnswers, extendTold, extendCall}
-use Rattle.byte_streams.proofs.StreamCuts.{streamCut, extend_cut}
+use Rattle.stream.specs.Extend.{stream_buffers}
+use Rattle.byte_signals.proofs.SignalPaths.{samples_cut}
+use Rattle.byte_streams.specs.Streams.{extend_answers, extend_told, extend_call}
+use Rattle.byte_streams.proofs.StreamCuts.{stream_cut, extend_cut}
 use borrow.Author.Rules.{rules}
 use Rattle.byte_streams.proofs.extend_items.Statement.{statement}
 use Rattle.byte_streams.proofs.extend_items.Tie as tie
@@ -57,15 +57,15 @@ returns c =
     let left = lists after.1.0 after.1.1.0 after.1.1.1.0 in
     let strings = lists a.path-sizes.now a.path-losses.now a.path-weights.now in
     let bits = to_z-of_z {w = w16} start.ranges.sample in
-    returned samplesCut streamCut extendAnswers (extendCall a.sample a.max-segments) a.samples.now (streamBuffers a.table.now strings) pre.whole
+    returned samples_cut stream_cut extend_answers (extend_call a.sample a.max-segments) a.samples.now (stream_buffers a.table.now strings) pre.whole
     (tt, models-held strings at-slice-known2.slice-known2.given at-slice-known3.slice-known3.given at-slice-known4.slice-known4.given)
-    (extend_cut a.sample a.max-segments _ _) a.sample-items.now (streamBuffers a.table.now items) (streamBuffers after.0 left) made.result
-    (ap extendTold made.ensures.0
-    ∙ (λ i. extendCall (bits i) a.max-segments (at-read-i16s.read-i16s.ensures i)
-    (streamBuffers a.table.now (lists (models.ensures.sizes-are i) (models.ensures.losses-are i) (models.ensures.weights-are i)))))
-    pre.samples-fit (tt, models-fit strings pre.fit items refl refl refl)
+    (extend_cut a.sample a.max-segments _ _) a.sample-items.now (stream_buffers a.table.now items) (stream_buffers after.0 left) made.result
+    (ap extend_told made.ensures.0
+    ∙ (λ i. extend_call (bits i) a.max-segments (at-read-i16s.read-i16s.ensures i)
+    (stream_buffers a.table.now (lists (models.ensures.sizes_are i) (models.ensures.losses_are i) (models.ensures.weights_are i)))))
+    pre.samples_fit (tt, models-fit strings pre.fit items refl refl refl)
     (tt, models-fit strings pre.fit left (stays.0 ∙ long.0) (stays.1.0 ∙ long.1.0) (stays.1.1.0 ∙ long.1.1.0))
-    _ (λ i. streamBuffers after.0 (lists (written.sizes-are i) (written.losses-are i) (written.weights-are i)))
+    _ (λ i. stream_buffers after.0 (lists (written.sizes_are i) (written.losses_are i) (written.weights_are i)))
 
 pub extend-items-spec : {M : Type 1} → statement M
 extend-items-spec =

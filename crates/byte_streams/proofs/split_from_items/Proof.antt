@@ -2,10 +2,10 @@
 use mathlib.Core.Path.{ap, ◌∙◌}
 use Rattle.coding.proofs.Strings.{bytes-held}
 use Rattle.coding.proofs.Calls.{returned}
-use Rattle.stream.specs.SplitFrom.{segmentBuffers}
-use Rattle.byte_signals.proofs.SignalPaths.{samplesCut}
-use Rattle.byte_streams.specs.Streams.{segmentStrings, splitFromAnswers, splitFromTold, splitFromCall}
-use Rattle.byte_streams.proofs.StreamCuts.{segmentsCut, split-from-cut}
+use Rattle.stream.specs.SplitFrom.{segment_buffers}
+use Rattle.byte_signals.proofs.SignalPaths.{samples_cut}
+use Rattle.byte_streams.specs.Streams.{segment_strings, split_from_answers, split_from_told, split_from_call}
+use Rattle.byte_streams.proofs.StreamCuts.{segments_cut, split-from-cut}
 use borrow.Author.Rules.{rules}
 use Rattle.byte_streams.proofs.split_from_items.Statement.{statement}
 use Rattle.byte_streams.proofs.split_from_items.Tie as tie
@@ -40,18 +40,18 @@ returns c =
     let long = made.kept.1.1.1.1.1 in
     let written = w.encode-segments.ensures in
     let segments = d.read-segments in
-    let lists = segmentBuffers a.start-items.now a.level-items.now in
-    let left = segmentBuffers after.0 after.1.0 in
-    let lent = segmentStrings a.starts.now a.levels.now in
-    let call = splitFromCall a.max-segments a.p a.q a.table.now in
-    returned samplesCut segmentsCut splitFromAnswers call a.samples.now lent s.pre.whole
+    let lists = segment_buffers a.start-items.now a.level-items.now in
+    let left = segment_buffers after.0 after.1.0 in
+    let lent = segment_strings a.starts.now a.levels.now in
+    let call = split_from_call a.max-segments a.p a.q a.table.now in
+    returned samples_cut segments_cut split_from_answers call a.samples.now lent s.pre.whole
     (bytes-held a.starts.now k.before.slice-known.given, bytes-held a.levels.now k.slice-known2.given)
     (split-from-cut a.max-segments a.p a.q a.table.now _ _) a.sample-items.now lists left made.result
-    (ap splitFromTold made.ensures
-    ∙ (λ i. call (r.read-i16s.ensures i) (segmentBuffers (segments.ensures.starts-are i) (segments.ensures.levels-are i))))
-    s.pre.samples-fit (s.pre.starts_fit, s.pre.levels-fit)
-    (long.0 ∙ segments.kept.1.1.0 ∙ s.pre.starts_fit, long.1.0 ∙ segments.kept.1.1.1.0 ∙ s.pre.levels-fit)
-    _ (λ i. segmentStrings (written.starts-are i) (written.levels-are i))
+    (ap split_from_told made.ensures
+    ∙ (λ i. call (r.read-i16s.ensures i) (segment_buffers (segments.ensures.starts_are i) (segments.ensures.levels_are i))))
+    s.pre.samples_fit (s.pre.starts_fit, s.pre.levels_fit)
+    (long.0 ∙ segments.kept.1.1.0 ∙ s.pre.starts_fit, long.1.0 ∙ segments.kept.1.1.1.0 ∙ s.pre.levels_fit)
+    _ (λ i. segment_strings (written.starts_are i) (written.levels_are i))
 
 pub split-from-items-spec : {M : Type 1} → statement M
 split-from-items-spec =

@@ -40,11 +40,11 @@ made-start floor p = record {
 
 module _ {xs : List ℤ} {squares row old₀ old floors₀ floors : List ℕ} {d m i floor : ℕ} (p : KeepFrom xs squares row old₀ floors₀ d m) (r : Made xs d m row old₀ old floors₀ floors i floor) (more : suc m * d ≤ i) where
   -- What the row's cell leaves of the squares is the loss.
-  loss-is : get_or squares i 0 - get_or row i 0 ≡ least xs d m i
-  loss-is = omega (arith, p.row_is.is i more r.high, p.squares-are.are i (omega (arith, r.high)))
+  loss_is : get_or squares i 0 - get_or row i 0 ≡ least xs d m i
+  loss_is = omega (arith, p.row_is.is i more r.high, p.squares_are.are i (omega (arith, r.high)))
 
   row_low : get_or row i 0 ≤ get_or squares i 0
-  row_low = omega (arith, p.row_is.is i more r.high, p.squares-are.are i (omega (arith, r.high)))
+  row_low = omega (arith, p.row_is.is i more r.high, p.squares_are.are i (omega (arith, r.high)))
 
   -- There is a sample before.
   some_left : 0 < i
@@ -53,7 +53,7 @@ module _ {xs : List ℤ} {squares row old₀ old floors₀ floors : List ℕ} {d
   -- A turn keeps the cell i, and makes its floor.
   made-step : (f : ℕ) → f ≡ min floor (get_or squares i 0 - get_or row i 0) → Made xs d m row old₀ (set old i (get_or row i 0)) floors₀ (set floors i f) (i - 1) f
   made-step f is =
-      let here : f ≤ least xs d m i = omega (arith, loss-is) in
+      let here : f ≤ least xs d m i = omega (arith, loss_is) in
       let past : (t : ℕ) → i ≤ t → t ≤ length xs → f ≤ least xs d m t = λ t a b. ⊎_elim (λ q. omega (arith, ap (least xs d m) q)) (λ q. omega (arith, r.floor-below t q b)) (eq-or-lt_of_le {n = i} {m = t} a) in
       record {
         high = omega (arith, r.high);
@@ -61,12 +61,12 @@ module _ {xs : List ℤ} {squares row old₀ old floors₀ floors : List ℕ} {d
         len-old = length-set old i (get_or row i 0) ∙ r.len-old;
         len-floors = length-set floors i f ∙ r.len-floors;
         same = λ t a b. ⊎_elim
-            (λ q. ap (λ (n : ℕ). get_or (set old i (get_or row i 0)) n 0) (sym q) ∙ get_or-set_same old i (get_or row i 0) 0 (omega (arith, r.high, r.len-old, p.room-old)) ∙ ap (λ (n : ℕ). get_or row n 0) q)
+            (λ q. ap (λ (n : ℕ). get_or (set old i (get_or row i 0)) n 0) (sym q) ∙ get_or-set_same old i (get_or row i 0) 0 (omega (arith, r.high, r.len-old, p.room_old)) ∙ ap (λ (n : ℕ). get_or row n 0) q)
             (λ q. get_or-set_other old i t (get_or row i 0) 0 (omega arith) ∙ r.same t q b)
             (eq-or-lt_of_le {n = i} {m = t} (omega arith));
         floor-below = λ t a b. past t (omega arith) b;
         made = λ s t a b u. ⊎_elim
-            (λ q. omega (arith, ap (λ (n : ℕ). get_or (set floors i f) n 0) (sym q), get_or-set_same floors i f 0 (omega (arith, r.high, r.len-floors, p.room-floors)), past t (omega arith) u))
+            (λ q. omega (arith, ap (λ (n : ℕ). get_or (set floors i f) n 0) (sym q), get_or-set_same floors i f 0 (omega (arith, r.high, r.len-floors, p.room_floors)), past t (omega arith) u))
             (λ q. omega (arith, get_or-set_other floors i s f 0 (omega arith), r.made s t q b u))
             (eq-or-lt_of_le {n = i} {m = s} (omega arith));
       }
@@ -74,8 +74,8 @@ module _ {xs : List ℤ} {squares row old₀ old floors₀ floors : List ℕ} {d
 -- After the loop all are.
 made-end : {xs : List ℤ} {squares row old₀ old floors₀ floors : List ℕ} {d m i floor : ℕ} → KeepFrom xs squares row old₀ floors₀ d m → Made xs d m row old₀ old floors₀ floors i floor → i < suc m * d → Kept xs d m old floors
 made-end p r h = record {
-  old-is = record { is = λ j l u. omega (arith, r.same j (omega arith) u, p.row_is.is j l u) };
-  floors-are = record { below = λ s t a b u. r.made s t (omega arith) b u };
+  old_is = record { is = λ j l u. omega (arith, r.same j (omega arith) u, p.row_is.is j l u) };
+  floors_are = record { below = λ s t a b u. r.made s t (omega arith) b u };
 }
 
 abbrev invariant-loop : tie.invariant-loop
@@ -91,10 +91,10 @@ mul_low : tie.Need-overflow-mul-low invariant-loop decreases-loop
 mul_low c = omega (arith, c.before.before.before.before.requires.enough, c.before.before.before.before.requires.short)
 
 mul-floor : tie.Need-overflow-mul-floor invariant-loop decreases-loop
-mul-floor c = omega (arith, c.before.before.before.before.requires.squares-are.room, c.before.before.before.before.requires.short)
+mul-floor c = omega (arith, c.before.before.before.before.requires.squares_are.room, c.before.before.before.before.requires.short)
 
 shared-slice-read-floor : tie.Need-shared-slice-read-floor invariant-loop decreases-loop
-shared-slice-read-floor c = omega (arith, c.before.before.before.before.before.requires.squares-are.room)
+shared-slice-read-floor c = omega (arith, c.before.before.before.before.before.requires.squares_are.room)
 
 loop-holds : tie.Need-loop-init invariant-loop decreases-loop
 loop-holds c = made-start _ c.before.before.before.before.before.requires
@@ -109,13 +109,13 @@ mul-old : tie.Need-overflow-mul-old invariant-loop decreases-loop
 mul-old c = omega (arith, c.before.before.loop.invariant.high, c.before.before.before.before.before.before.before.before.requires.short)
 
 slice-write-old : tie.Need-slice-write-old invariant-loop decreases-loop
-slice-write-old c = omega (arith, c.before.before.loop.invariant.high, c.before.before.loop.invariant.len-old, c.before.before.before.before.before.before.before.before.requires.room-old)
+slice-write-old c = omega (arith, c.before.before.loop.invariant.high, c.before.before.loop.invariant.len-old, c.before.before.before.before.before.before.before.before.requires.room_old)
 
 mul-lower : tie.Need-overflow-mul-lower invariant-loop decreases-loop
 mul-lower c = omega (arith, c.before.before.loop.invariant.high, c.before.before.before.before.before.before.before.before.requires.short)
 
 shared-slice-read-lower : tie.Need-shared-slice-read-lower invariant-loop decreases-loop
-shared-slice-read-lower c = omega (arith, c.before.before.before.loop.invariant.high, c.before.before.before.before.before.before.before.before.before.requires.squares-are.room)
+shared-slice-read-lower c = omega (arith, c.before.before.before.loop.invariant.high, c.before.before.before.before.before.before.before.before.before.requires.squares_are.room)
 
 sub-lower : tie.Need-overflow-sub-lower invariant-loop decreases-loop
 sub-lower c = row_low c.before.before.before.before.before.before.before.before.before.requires c.before.before.before.loop.invariant (omega arith)
@@ -127,7 +127,7 @@ mul-floors : tie.Need-overflow-mul-floors invariant-loop decreases-loop
 mul-floors c = omega (arith, c.before.before.before.before.loop.invariant.high, c.before.before.before.before.before.before.before.before.before.before.requires.short)
 
 slice-write-floors : tie.Need-slice-write-floors invariant-loop decreases-loop
-slice-write-floors c = omega (arith, c.before.before.before.before.loop.invariant.high, c.before.before.before.before.loop.invariant.len-floors, c.before.before.before.before.before.before.before.before.before.before.requires.room-floors)
+slice-write-floors c = omega (arith, c.before.before.before.before.loop.invariant.high, c.before.before.before.before.loop.invariant.len-floors, c.before.before.before.before.before.before.before.before.before.before.requires.room_floors)
 
 sub-i : tie.Need-overflow-sub-i invariant-loop decreases-loop
 sub-i c = omega (arith, some_left c.before.before.before.before.before.before.before.before.before.before.requires c.before.before.before.before.loop.invariant (omega arith))

@@ -9,13 +9,13 @@ use native.Mathlib.Nat.{eq-or-lt_of_le}
 use native.Mathlib.Omega.{arith}
 use lib.IntN.{ℤ}
 use lib.ListN.{length, get_or, set, length-set}
-use Rattle.layout.specs.Item.{item, setItem}
-use Rattle.layout.proofs.Laws.{length-setItem, byte-kept, item-same, item-other}
-use Rattle.segment.specs.Segment.{maxSamples}
+use Rattle.layout.specs.Item.{item, set_item}
+use Rattle.layout.proofs.Laws.{length-set_item, byte-kept, item-same, item-other}
+use Rattle.segment.specs.Segment.{max_samples}
 use Rattle.segment.proofs.Cells.{cell-more}
-use Rattle.least.specs.Segmentation.{lastStart, least}
-use Rattle.least.specs.Inner.{startPlace, GainOf, Limited, SearchFrom, PickFrom, Picked, Found, NextFrom, NextRow}
-use Rattle.least.proofs.LeastLosses.{lastStart-bounds}
+use Rattle.least.specs.Segmentation.{last_start, least}
+use Rattle.least.specs.Inner.{start_place, GainOf, Limited, SearchFrom, PickFrom, Picked, Found, NextFrom, NextRow}
+use Rattle.least.proofs.LeastLosses.{last_start-bounds}
 use Rattle.least.proofs.next_row.Statement.{statement}
 use Rattle.least.proofs.next_row.Tie as tie
 
@@ -27,15 +27,15 @@ record Rows (xs : List ℤ) (d m j s right : ℕ) (row₀ row before scratch : L
   start-high : s + d ≤ j + 1
   limited : Limited d m (j + 1) right
   len-row : length row ≡ length row₀
-  len-scratch : length scratch ≡ length before
+  len_scratch : length scratch ≡ length before
   done : (t : ℕ) → 0 < t → t ≤ j → suc (suc m) * d ≤ t → GainOf xs d (suc m) t (get_or row t 0)
-  starts : (t : ℕ) → suc (suc m) * d ≤ t → t ≤ j → item 2 scratch (startPlace m t) ≡ lastStart xs (least xs d m) d (suc m) t
-  kept : (i : ℕ) → i < startPlace m 1 → get_or scratch i 0 ≡ get_or before i 0
+  starts : (t : ℕ) → suc (suc m) * d ≤ t → t ≤ j → item 2 scratch (start_place m t) ≡ last_start xs (least xs d m) d (suc m) t
+  kept : (i : ℕ) → i < start_place m 1 → get_or scratch i 0 ≡ get_or before i 0
 
 -- A start that a search finds stands within its bounds.
 picked-within : {xs : List ℤ} {d m to gain start : ℕ} → Picked xs d m to gain start → suc (suc m) * d ≤ to → (suc m * d ≤ start) × (start + d ≤ to)
 picked-within {xs} {d} {m} {to} p h =
-    let f = lastStart-bounds xs (least xs d m) d (suc m) to h in
+    let f = last_start-bounds xs (least xs d m) d (suc m) to h in
     (omega (arith, p.start_is, f.0), omega (arith, p.start_is, f.1))
 
 -- Before the loop there is nothing to show of the row.
@@ -48,7 +48,7 @@ rows_start p = record {
   start-high = omega (arith, p.one);
   limited = record { above = omega arith; below = omega (arith, p.one) };
   len-row = refl;
-  len-scratch = refl;
+  len_scratch = refl;
   done = λ t l u h. absurd (omega (arith, p.one));
   starts = λ t l u. absurd (omega (arith, p.one));
   kept = λ t l. refl;
@@ -59,15 +59,15 @@ module _ {xs : List ℤ} {d m j s right : ℕ} {sums recips squares old floors r
   rows-search : SearchFrom xs sums recips squares old floors row d m (j + 1)
   rows-search = record {
     ready = p.ready;
-    squares-are = p.squares-are;
+    squares_are = p.squares_are;
     one = p.one;
     some = omega (arith, r.low);
     within = omega arith;
-    room-old = omega (arith, p.room-old);
-    room-floors = omega (arith, p.room-floors);
+    room_old = omega (arith, p.room_old);
+    room_floors = omega (arith, p.room_floors);
     room_row = omega (arith, p.room_row, r.len-row);
-    floors-are = p.floors-are;
-    old-is = λ i l u. p.old-is.is i l (omega arith);
+    floors_are = p.floors_are;
+    old_is = λ i l u. p.old_is.is i l (omega arith);
     row_is = λ i l u. r.done i (omega (arith, p.one)) (omega arith) l;
   }
 
@@ -82,12 +82,12 @@ module _ {xs : List ℤ} {d m j s right : ℕ} {sums recips squares old floors r
 
   -- A turn makes the cell j + 1, and the start there.
   rows_step : {gain start right' : ℕ} → Found xs d m (j + 1) gain start right'
-      → Rows xs d m (j + 1) start right' row₀ (set row (j + 1) gain) before (setItem 2 scratch (2 * (maxSamples * m + j)) start)
+      → Rows xs d m (j + 1) start right' row₀ (set row (j + 1) gain) before (set_item 2 scratch (2 * (max_samples * m + j)) start)
   rows_step {gain} {start} f =
       let short = p.ready.summed.asked.short in
       let b = picked-within f.picked (omega (arith, r.low)) in
-      let at = 2 * (maxSamples * m + j) in
-      let place : at ≡ startPlace m (j + 1) = omega arith in
+      let at = 2 * (max_samples * m + j) in
+      let place : at ≡ start_place m (j + 1) = omega arith in
       record {
         low = omega (arith, r.low);
         high = omega arith;
@@ -95,13 +95,13 @@ module _ {xs : List ℤ} {d m j s right : ℕ} {sums recips squares old floors r
         start-high = omega (arith, b.1);
         limited = record { above = f.limited.above; below = omega (arith, f.limited.below) };
         len-row = length-set row (j + 1) gain ∙ r.len-row;
-        len-scratch = length-setItem 2 scratch at start ∙ r.len-scratch;
-        done = cell-more (λ (t v : ℕ). suc (suc m) * d ≤ t → GainOf xs d (suc m) t v) 0 j gain row r.done (omega (arith, r.len-row, p.room_row)) (λ u. f.picked.gain-is);
+        len_scratch = length-set_item 2 scratch at start ∙ r.len_scratch;
+        done = cell-more (λ (t v : ℕ). suc (suc m) * d ≤ t → GainOf xs d (suc m) t v) 0 j gain row r.done (omega (arith, r.len-row, p.room_row)) (λ u. f.picked.gain_is);
         starts = λ t l u. ⊎_elim
-            (λ q. subst (λ (t : ℕ). item 2 (setItem 2 scratch at start) (startPlace m t) ≡ lastStart xs (least xs d m) d (suc m) t) (sym q)
-            (subst (λ (i : ℕ). item 2 (setItem 2 scratch at start) i ≡ lastStart xs (least xs d m) d (suc m) (j + 1)) place
-            (item-same 2 scratch at start (omega (arith, r.len-scratch, p.len-scratch, p.few)) (omega (arith, b.1, p.one)) ∙ f.picked.start_is)))
-            (λ q. item-other 2 2 scratch at start (startPlace m t) (inl (omega (arith, p.one))) ∙ r.starts t l (omega arith)) (eq-or-lt_of_le {n = t} {m = j + 1} u);
+            (λ q. subst (λ (t : ℕ). item 2 (set_item 2 scratch at start) (start_place m t) ≡ last_start xs (least xs d m) d (suc m) t) (sym q)
+            (subst (λ (i : ℕ). item 2 (set_item 2 scratch at start) i ≡ last_start xs (least xs d m) d (suc m) (j + 1)) place
+            (item-same 2 scratch at start (omega (arith, r.len_scratch, p.len_scratch, p.few)) (omega (arith, b.1, p.one)) ∙ f.picked.start_is)))
+            (λ q. item-other 2 2 scratch at start (start_place m t) (inl (omega (arith, p.one))) ∙ r.starts t l (omega arith)) (eq-or-lt_of_le {n = t} {m = j + 1} u);
         kept = λ i l. byte-kept 2 scratch at start i (inl (omega arith)) ∙ r.kept i l;
       }
 
@@ -109,7 +109,7 @@ module _ {xs : List ℤ} {d m j s right : ℕ} {sums recips squares old floors r
 rows_end : {xs : List ℤ} {d m j s right : ℕ} {row₀ row before scratch : List ℕ} → 0 < d → Rows xs d m j s right row₀ row before scratch → length xs ≤ j → NextRow xs d m row before scratch
 rows_end one r h = record {
   row_is = record { is = λ t l u. r.done t (omega arith) (omega arith) l };
-  starts-are = record { are = λ t l u. r.starts t l (omega arith) };
+  starts_are = record { are = λ t l u. r.starts t l (omega arith) };
   kept = r.kept;
 }
 
@@ -157,7 +157,7 @@ put-u16-requires c κs =
     let at_test = c.before.before.before in
     let at-loop = at_test.before in
     let start = at-loop.before.before.before.before.before.before.before.before in
-    omega (arith, at-loop.loop.invariant.len-scratch, at_test.loop-test.true, start.requires.len-scratch, start.requires.few, start.requires.ready.summed.asked.short)
+    omega (arith, at-loop.loop.invariant.len_scratch, at_test.loop-test.true, start.requires.len_scratch, start.requires.few, start.requires.ready.summed.asked.short)
 
 add-j-2 : tie.Need-overflow-add-j-2 invariant-loop decreases-loop
 add-j-2 c = omega (arith, c.before.before.before.before.before.before.loop-test.true, c.before.before.before.before.before.before.before.before.before.before.before.before.before.before.before.requires.ready.summed.asked.short)
@@ -180,7 +180,7 @@ same_length : tie.Need-same-length invariant-loop decreases-loop
 same_length c = c.before.loop.invariant.len-row
 
 same-length-2 : tie.Need-same-length-2 invariant-loop decreases-loop
-same-length-2 c = c.before.loop.invariant.len-scratch
+same-length-2 c = c.before.loop.invariant.len_scratch
 
 returns : tie.Need-returns invariant-loop decreases-loop
 returns c = rows_end c.before.before.before.before.before.before.before.before.before.requires.one c.before.loop.invariant (omega arith)

@@ -46,13 +46,13 @@ returns c =
     let p = c.before.before.before.before.before.before.before.before.before.before.before.requires in
     let a = c.before.before.before.before.before.before.before.before.before.before.before.args in
     let full : get_or a.old.now a.s 0 + c.before.before.before.before.segment-gain.result ≡ get_or a.squares.now a.to 0 = eqb-true _ _ c.if2.true in
-    record { picked = none-lost p.search (at-hand c.before.before.before.before) (omega arith) (omega (arith, p.search.squares-are.are a.to (omega (arith, p.search.within)))); limited = p.limited }
+    record { picked = none-lost p.search (at-hand c.before.before.before.before) (omega arith) (omega (arith, p.search.squares_are.are a.to (omega (arith, p.search.within)))); limited = p.limited }
 
 sub-right-limit : tie.Need-overflow-sub-right-limit
 sub-right-limit c =
     let at_here = c.before.before.before in
     let start = at_here.before.before.before.before.before.before.before in
-    omega (arith, start.requires.search.squares-are.are start.args.to (omega (arith, start.requires.search.within)), sum_is start.requires.search (at-hand (at_here)))
+    omega (arith, start.requires.search.squares_are.are start.args.to (omega (arith, start.requires.search.within)), sum_is start.requires.search (at-hand (at_here)))
 
 right-limit-requires : tie.Need-right-limit-requires
 right-limit-requires c κs = search rules
@@ -65,8 +65,8 @@ seed-from-requires c κs =
     record {
       search = p.search;
       start = a;
-      right-below = l.limited.below;
-      later = λ t h u. omega (arith, l.later t h u, p.search.squares-are.are c.before.before.before.before.before.before.before.before.before.before.before.args.to (omega (arith, p.search.within)), sum_is p.search a);
+      right_below = l.limited.below;
+      later = λ t h u. omega (arith, l.later t h u, p.search.squares_are.are c.before.before.before.before.before.before.before.before.before.before.before.args.to (omega (arith, p.search.within)), sum_is p.search a);
     }
 
 down-from-requires : tie.Need-down-from-requires

@@ -41,7 +41,7 @@ use denote.Steps.{nothing, owned}
 use denote.Triple.Spec.{Meets, triple_of}
 use denote.Triple.Table.{entered}
 use denote.Triple.Walked.{says, Stays, stay_none, stay_none_slice, walk_of, Walks, ends_at, walked, Goes-none, Goes-none_slice, walk_Meets}
-use Rattle.models.specs.Inner.{noEntry}
+use Rattle.models.specs.Inner.{no_entry}
 use Rattle.models.specs.declared.Entry.{Entry}
 use Rattle.models.specs.contracts.Entry as T
 use Rattle.models.proofs.Entry.TheLaws as T'
@@ -83,7 +83,7 @@ module _ {M : Type 1} {𝓤 : Ura M} (𝓛 : Logic 𝓤) (mem : Memory → SProp
   Closed = ‵ (flft κ q) ∷ ‵ (fshr_bor κ (λ s. (arr_parts (shares R) (length ys)).part s ys b o)) ∷ ‵ (fres γ ((coded_holeys R).code (heres R ys))) ∷ []
 
   -- An entry is answered.
-  exits : (e : Entry) → e ≡ get_or ys i noEntry → e.size < 2 ^ 64 → e.loss < 2 ^ 64 → e.weight < 2 ^ 64 → ent 𝓤 (⋆ 𝓛 Closed) (Post (T'.lowered e))
+  exits : (e : Entry) → e ≡ get_or ys i no_entry → e.size < 2 ^ 64 → e.loss < 2 ^ 64 → e.weight < 2 ^ 64 → ent 𝓤 (⋆ 𝓛 Closed) (Post (T'.lowered e))
   exits e is s l w =
       qed 𝓛 Closed ∵
       suffices ! _ (ends_at 𝓛 call.ended stayed (call.clauses 𝓛 mem run) (((κ, tt), (q, tt), tt, x, at), tt) (T'.lowered e) e (tt, (tt, tt)) (tt, (tt, tt))) $ says ! is $
@@ -118,7 +118,7 @@ module _ {M : Type 1} {𝓤 : Ura M} (𝓛 : Logic 𝓤) (mem : Memory → SProp
         forget ! 18 refl $ forget ! 16 refl $ forget ! 14 refl $ forget ! 12 refl $ forget ! 10 refl $
         move ! (18 ∷ 19 ∷ []) $ free1 ! $ move ! (16 ∷ 17 ∷ []) $ free1 ! $ move ! (14 ∷ 15 ∷ []) $ free1 ! $ move ! (12 ∷ 13 ∷ []) $ free1 ! $ move ! (10 ∷ 11 ∷ []) $ free1 ! $ move ! (8 ∷ 9 ∷ []) $ free1 ! $ move ! (6 ∷ 7 ∷ []) $ free1 ! $ free0 ! $
         keep ! (0 ∷ 3 ∷ 2 ∷ []) $
-        by ! (exits noEntry (sym (get_or-eq_default ys noEntry (leb-true (length ys) i z))) (lit< tt) (lit< tt) (lit< tt))) (λ absent. absurd absent)
+        by ! (exits no_entry (sym (get_or-eq_default ys no_entry (leb-true (length ys) i z))) (lit< tt) (lit< tt) (lit< tt))) (λ absent. absurd absent)
 
     inside : leb (length ys) i ≡ false → Sq 𝓛 Begun (runs C Λ Ev pieces.t-3 (at_ret Ev Post))
     inside z =
@@ -136,16 +136,16 @@ module _ {M : Type 1} {𝓤 : Ura M} (𝓛 : Logic 𝓤) (mem : Memory → SProp
         assigns ! (bin ! (load ! (from ! (stop !)) (look ! 15 refl)) (lit ! tt) (record { fits = far })) (from ! (stop !)) (store ! 13 refl (tt, record { fits = far })) $
         assigns ! (bin ! (load ! (from ! (fld ! refl (stop !))) (look_in ! 17 (sub ! 0 refl (whole !)))) (load ! (from ! (stop !)) (look ! 13 refl)) tt) (from ! (stop !)) (init ! 9 refl (tt, tt)) $
         rewrite ! 9 (λ (p : ℕ). ‵ (fat full_share ty_ptr l₅ 0 (vptr b p))) (sym (place_is 24 o i)) refl $
-        elem_out ! R (Is R) (shows 𝓛 R) (LL.vals T.the_type T'.the_laws) (LL.tells T.the_type T'.the_laws) q' ys i noEntry b o there (λ g.
+        elem_out ! R (Is R) (shows 𝓛 R) (LL.vals T.the_type T'.the_laws) (LL.tells T.the_type T'.the_laws) q' ys i no_entry b o there (λ g.
         assigns ! (of_opd ! (load ! (from ! (hop ! (look ! 11 refl) (stop !))) (look_raw ! 0 refl))) (from ! (stop !)) (init ! 9 refl (tt, (record { fits = g.1.1.0.1 }, (record { fits = g.1.1.1.0.1 }, (record { fits = g.1.1.1.1.0.1 }, tt))))) $
-        elem_back ! R q' ys i noEntry (T'.lowered (get_or ys i noEntry) ∷ []) b o there $
+        elem_back ! R q' ys i no_entry (T'.lowered (get_or ys i no_entry) ∷ []) b o there $
         shuts_slice ! tt R q' ys b o $
         assigns ! (of_opd ! (load ! (from ! (stop !)) (look ! 6 refl))) (from ! (stop !)) (init ! 18 refl (tt, (record { fits = g.1.1.0.1 }, (record { fits = g.1.1.1.0.1 }, (record { fits = g.1.1.1.1.0.1 }, tt))))) $
         returns ! (look ! 18 refl) $
         forget ! 18 refl $ forget ! 16 refl $ forget ! 14 refl $ forget ! 12 refl $ forget ! 10 refl $ forget ! 8 refl $ forget ! 6 refl $
         move ! (18 ∷ 19 ∷ []) $ free1 ! $ move ! (16 ∷ 17 ∷ []) $ free1 ! $ move ! (14 ∷ 15 ∷ []) $ free1 ! $ move ! (12 ∷ 13 ∷ []) $ free1 ! $ move ! (10 ∷ 11 ∷ []) $ free1 ! $ move ! (8 ∷ 9 ∷ []) $ free1 ! $ move ! (6 ∷ 7 ∷ []) $ free1 ! $ free0 ! $
         keep ! (0 ∷ 1 ∷ 3 ∷ []) $
-        by ! (exits (get_or ys i noEntry) refl g.1.1.0.1 g.1.1.1.0.1 g.1.1.1.1.0.1))))
+        by ! (exits (get_or ys i no_entry) refl g.1.1.0.1 g.1.1.1.0.1 g.1.1.1.1.0.1))))
       where
         there : i < length ys
         there = leb-false (length ys) i z

@@ -41,7 +41,7 @@ use denote.Triple.Clauses.{ensured, lasts}
 use denote.Triple.Table.{entered, cited}
 use denote.Triple.Walked.{says, Stays, stay_none, stay_none_slice, walk_of, Goes-none, Goes-none_slice, Walks, ends_at, walked, walk_Meets}
 use Rattle.path.specs.Model.{Model, model}
-use Rattle.path.specs.Refusal.{validPath}
+use Rattle.path.specs.Refusal.{valid_path}
 use Rattle.path.specs.Inner.{KeepsOf}
 use Rattle.path.specs.declared.Kept.{Kept}
 use Rattle.path.specs.declared.tally.Tally.{Tally}
@@ -49,8 +49,8 @@ use Rattle.path.specs.contracts.tally.Tally as Tl
 use Rattle.path.proofs.tally.Tally.TheLaws as Tl'
 use Rattle.path.specs.contracts.Kept as Kp
 use Rattle.path.proofs.Kept.TheLaws as Kp'
-use Rattle.models.specs.Entries.{lossesIn, weightsIn, listsIn}
-use Rattle.models.specs.Inner.{noEntry, Judges}
+use Rattle.models.specs.Entries.{losses_in, weights_in, lists_in}
+use Rattle.models.specs.Inner.{no_entry, Judges}
 use Rattle.models.specs.declared.Entry.{Entry}
 use Rattle.models.specs.declared.Input.{Input}
 use Rattle.models.specs.declared.Judged.{Judged}
@@ -137,10 +137,10 @@ module _ {M : Type 1} {𝓤 : Ura M} (𝓛 : Logic 𝓤) (mem : Memory → SProp
 
   -- Whether the path is valid, its last entry, and the input.
   abbrev valid : Bool
-  valid = validPath (listsIn ys) n
+  valid = valid_path (lists_in ys) n
 
   abbrev last_one : Entry
-  last_one = get_or ys (n - 1) noEntry
+  last_one = get_or ys (n - 1) no_entry
 
   abbrev inp : Input
   inp = input ys n new
@@ -232,7 +232,7 @@ module _ {M : Type 1} {𝓤 : Ura M} (𝓛 : Logic 𝓤) (mem : Memory → SProp
       owned ! u64 (Is u64) (uint_Makes 𝓛 w64) t _ (refl, t-fits) $ fjoin ! $ owned ! u64 (Is u64) (uint_Makes 𝓛 w64) v _ (refl, v-fits) $ fjoin ! $ owned ! usize (Is usize) (uint_Makes 𝓛 w64) inp.tried _ (refl, tried-fit) $ fjoin ! $ move ! (2 ∷ 0 ∷ []) $ fjoin ! $ move ! (1 ∷ 0 ∷ []) $ done !
 
   abbrev Found : Kept → Type 0
-  Found r = KeepsOf (lossesIn ys) (weightsIn ys) inp.tried v t inp.tests.count r
+  Found r = KeepsOf (losses_in ys) (weights_in ys) inp.tried v t inp.tests.count r
 
   scan-of : (r : Kept) → ent 𝓤 (ensured 𝓛 scan.ended (scan.clauses 𝓛 mem run) (κ, tt) scan-args tt r) (fact 𝓤 (Found r))
   scan-of r = ex_e 𝓤 _ (λ ws. snd∗ 𝓤 (sem 𝓛 (lasts scan.ended (κ, tt) scan-args ws)) (fact 𝓤 (Found r)))
@@ -256,7 +256,7 @@ module _ {M : Type 1} {𝓤 : Ura M} (𝓛 : Logic 𝓤) (mem : Memory → SProp
   answer-says : (found : Kept) (r : Judged) → ent 𝓤 (ensured 𝓛 answer-of.ended (answer-of.clauses 𝓛 mem run) tt (answer-args found) tt r) (fact 𝓤 (r ≡ judgement ys n new inp found))
   answer-says found r = ex_e 𝓤 _ (λ ws. snd∗ 𝓤 (sem 𝓛 (lasts answer-of.ended tt (answer-args found) ws)) (fact 𝓤 (r ≡ judgement ys n new inp found)))
 
-  exits : (r : Judged) (w : Val) → Judges (listsIn ys) n new r → ent 𝓤 (⋆ 𝓛 (‵ (flft κ q) ∷ list ∷ ‵ ((Jd.the_row).own_val r (w ∷ [])) ∷ [])) (Post w)
+  exits : (r : Judged) (w : Val) → Judges (lists_in ys) n new r → ent 𝓤 (⋆ 𝓛 (‵ (flft κ q) ∷ list ∷ ‵ ((Jd.the_row).own_val r (w ∷ [])) ∷ [])) (Post w)
   exits r w e =
       qed 𝓛 (‵ (flft κ q) ∷ list ∷ ‵ ((Jd.the_row).own_val r (w ∷ [])) ∷ []) ∵
       suffices ! _ (ends_at 𝓛 call.ended stayed (call.clauses 𝓛 mem run) (((κ, tt), (q, tt), tt, a, vals), tt) w r (tt, (tt, (tt, (tt, (tt, tt))))) (tt, (tt, (tt, (tt, (tt, tt)))))) $ says ! e $
@@ -368,7 +368,7 @@ module _ {M : Type 1} {𝓤 : Ura M} (𝓛 : Logic 𝓤) (mem : Memory → SProp
         move ! (36 ∷ 37 ∷ []) $ free1 ! $ move ! (34 ∷ 35 ∷ []) $ free1 ! $ move ! (32 ∷ 33 ∷ []) $ free1 ! $ move ! (30 ∷ 31 ∷ []) $ free1 ! $ move ! (28 ∷ 29 ∷ []) $ free1 ! $ move ! (26 ∷ 27 ∷ []) $ free1 ! $ move ! (24 ∷ 25 ∷ []) $ free1 ! $ move ! (22 ∷ 23 ∷ []) $ free1 ! $
         move ! (20 ∷ 21 ∷ []) $ free1 ! $ move ! (18 ∷ 19 ∷ []) $ free1 ! $ move ! (16 ∷ 17 ∷ []) $ free1 ! $ move ! (14 ∷ 15 ∷ []) $ free1 ! $ move ! (12 ∷ 13 ∷ []) $ free1 ! $ move ! (10 ∷ 11 ∷ []) $ free1 ! $ move ! (8 ∷ 9 ∷ []) $ free1 ! $ free0 ! $
         keep ! (1 ∷ 3 ∷ 0 ∷ []) $
-        by ! (exits r₆ x₆ (subst (Judges (listsIn ys) n new) (sym e₆) (judged-right ys n new r₅ e₅)))))))))))))))))))))))))))
+        by ! (exits r₆ x₆ (subst (Judges (lists_in ys) n new) (sym e₆) (judged-right ys n new r₅ e₅)))))))))))))))))))))))))))
 
   walk : (C : Calls 𝓤 H) (Λ : Loops 𝓤 H) → FmC 𝓤 H 𝓛.laws C → Triple 𝓤 (C #models·valid-entries) (Valid 𝓛 mem run)
       → Triple 𝓤 (C #models·place-before) (Before 𝓛 mem run)

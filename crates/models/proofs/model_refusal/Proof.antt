@@ -4,16 +4,16 @@ use mathlib.Core.List.{List, [], ◌∷◌}
 use Prim.Native.Nat.{ℕ, zero, suc, min}
 use native.Mathlib.Omega.{arith}
 use borrow.Author.Tests.{ne_eqb}
-use Rattle.path.specs.Model.{Model, model, lists, pathOf}
-use Rattle.path.specs.Refusal.{modelChecks, refusalOf}
-use Rattle.models.specs.Inner.{size_of, lossOf, weightOf, top_of}
+use Rattle.path.specs.Model.{Model, model, lists, path_of}
+use Rattle.path.specs.Refusal.{model_checks, refusal_of}
+use Rattle.models.specs.Inner.{size_of, loss_of, weight_of, top_of}
 use Rattle.models.specs.declared.Entry.{Entry}
 use borrow.Author.Rules.{rules}
 use Rattle.models.proofs.model_refusal.Statement.{statement}
 use Rattle.models.proofs.model_refusal.Tie as tie
 
-one_place : (n k : ℕ) (e : Entry) → k ≡ min n 1 → pathOf (lists (size_of e ∷ []) (lossOf e ∷ []) (weightOf e ∷ [])) k ≡ top_of n e
-unfolding pathOf
+one_place : (n k : ℕ) (e : Entry) → k ≡ min n 1 → path_of (lists (size_of e ∷ []) (loss_of e ∷ []) (weight_of e ∷ [])) k ≡ top_of n e
+unfolding path_of
 one_place zero k e h = rw h
 one_place (suc n) k e h = let one : k ≡ 1 = omega arith in rw (one, ne_eqb (suc n) 0 (λ z. absurd (omega arith)))
 
@@ -22,7 +22,7 @@ returns c =
     let a = c.before.before.before.before.before.args in
     let k = c.before.smaller in
     c.model-refusal.ensures
-    ∙ ap (λ (p : List Model). refusalOf (modelChecks p (model a.size a.loss a.weight))) (one_place a.n k.result a.last k.ensures)
+    ∙ ap (λ (p : List Model). refusal_of (model_checks p (model a.size a.loss a.weight))) (one_place a.n k.result a.last k.ensures)
 
 pub model-refusal-spec : {M : Type 1} → statement M
 model-refusal-spec =

@@ -59,8 +59,8 @@ use Rattle.models.specs.contracts.test_at as test
 use Rattle.models.proofs.test_at.Symbol as test-def
 use Rattle.models.proofs.test_at.Symbol.{name as #models·test-at}
 use Rattle.models.proofs.test_at.Met as test-thm
-use Rattle.models.specs.Entries.{lossesIn, weightsIn}
-use Rattle.models.specs.Inner.{noEntry, lossOf, weightOf}
+use Rattle.models.specs.Entries.{losses_in, weights_in}
+use Rattle.models.specs.Inner.{no_entry, loss_of, weight_of}
 use Rattle.models.specs.declared.Entry.{Entry}
 use Rattle.models.proofs.Scans.{Going, Found, found_at, Scanning, test_of, begins, there, going-small, small-place, found-small, in_path, countable, comparable, goes_on}
 use Rattle.models.specs.contracts.Entry as T
@@ -117,7 +117,7 @@ abbrev Test : {M : Type 1} {𝓤 : Ura M} (𝓛 : Logic 𝓤) (mem : Memory → 
 Test 𝓛 mem run = triple_of 𝓛 test.signature (test.spec 𝓛 mem run)
 
 module _ {M : Type 1} {𝓤 : Ura M} (𝓛 : Logic 𝓤) (mem : Memory → SProp 𝓤) (run : Routine → Fun 𝓤) (κ : Lft) (q : Share)
-    (b o : ℕ) (γ : GName) (ys : List Entry) (n u v : ℕ) (start : Tally) (can : Scannable (lossesIn ys) (weightsIn ys) n u v start.count) where
+    (b o : ℕ) (γ : GName) (ys : List Entry) (n u v : ℕ) (start : Tally) (can : Scannable (losses_in ys) (weights_in ys) n u v start.count) where
   open 𝓛 use {H}
 
   abbrev c₀ : ℕ
@@ -194,10 +194,10 @@ module _ {M : Type 1} {𝓤 : Ura M} (𝓛 : Logic 𝓤) (mem : Memory → SProp
 
       -- The same of the test at place a, after c tests.
       abbrev l : ℕ → ℕ
-      l a = lossOf (get_or ys a noEntry)
+      l a = loss_of (get_or ys a no_entry)
 
       abbrev t : ℕ → ℕ
-      t a = weightOf (get_or ys a noEntry)
+      t a = weight_of (get_or ys a no_entry)
 
       abbrev test-args : ℕ → ℕ → ℕ × (ℕ × (ℕ × (ℕ × (ℕ × (ℕ × (ℕ × (Tally × Unit {0})))))))
       test-args a c = (a, (l (a - 1), (t (a - 1), (l a, (t a, (u, (v, (tally_of c, tt))))))))
@@ -287,27 +287,27 @@ module _ {M : Type 1} {𝓤 : Ura M} (𝓛 : Logic 𝓤) (mem : Memory → SProp
             assigns ! (bin ! (load ! (from ! (stop !)) (look ! 4 refl)) (lit ! tt) (record { fits = before-far })) (from ! (stop !)) (init ! 7 refl (tt, record { fits = before-far })) $
             assigns ! (bin ! (load ! (from ! (fld ! refl (stop !))) (look_in ! 19 (sub ! 0 refl (whole !)))) (load ! (from ! (stop !)) (look ! 7 refl)) tt) (from ! (stop !)) (init ! 8 refl (tt, tt)) $
             rewrite ! 8 (λ (p : ℕ). ‵ (fat full_share ty_ptr l₁₃ 0 (vptr b p))) (sym (place_is 24 o (a - 1))) refl $
-            elem_out ! R (Is R) (shows 𝓛 R) (LL.vals T.the_type T'.the_laws) (LL.tells T.the_type T'.the_laws) q' ys (a - 1) noEntry b o before-there (λ g₁.
+            elem_out ! R (Is R) (shows 𝓛 R) (LL.vals T.the_type T'.the_laws) (LL.tells T.the_type T'.the_laws) q' ys (a - 1) no_entry b o before-there (λ g₁.
             assigns ! (of_opd ! (load ! (from ! (hop ! (look ! 10 refl) (fld ! refl (stop !)))) (look_in ! 0 (sub ! 1 refl (whole !))))) (from ! (stop !)) (init ! 11 refl (tt, record { fits = g₁.1.1.1.0.1 })) $
-            elem_back ! R q' ys (a - 1) noEntry (T'.lowered (get_or ys (a - 1) noEntry) ∷ []) b o before-there $
+            elem_back ! R q' ys (a - 1) no_entry (T'.lowered (get_or ys (a - 1) no_entry) ∷ []) b o before-there $
             assigns ! (bin ! (load ! (from ! (stop !)) (look ! 4 refl)) (lit ! tt) (record { fits = before-far })) (from ! (stop !)) (init ! 10 refl (tt, record { fits = before-far })) $
             assigns ! (bin ! (load ! (from ! (fld ! refl (stop !))) (look_in ! 19 (sub ! 0 refl (whole !)))) (load ! (from ! (stop !)) (look ! 10 refl)) tt) (from ! (stop !)) (init ! 11 refl (tt, tt)) $
             rewrite ! 11 (λ (p : ℕ). ‵ (fat full_share ty_ptr l₁₆ 0 (vptr b p))) (sym (place_is 24 o (a - 1))) refl $
-            elem_out ! R (Is R) (shows 𝓛 R) (LL.vals T.the_type T'.the_laws) (LL.tells T.the_type T'.the_laws) q' ys (a - 1) noEntry b o before-there (λ g₂.
+            elem_out ! R (Is R) (shows 𝓛 R) (LL.vals T.the_type T'.the_laws) (LL.tells T.the_type T'.the_laws) q' ys (a - 1) no_entry b o before-there (λ g₂.
             assigns ! (of_opd ! (load ! (from ! (hop ! (look ! 13 refl) (fld ! refl (stop !)))) (look_in ! 0 (sub ! 2 refl (whole !))))) (from ! (stop !)) (init ! 14 refl (tt, record { fits = g₂.1.1.1.1.0.1 })) $
-            elem_back ! R q' ys (a - 1) noEntry (T'.lowered (get_or ys (a - 1) noEntry) ∷ []) b o before-there $
+            elem_back ! R q' ys (a - 1) no_entry (T'.lowered (get_or ys (a - 1) no_entry) ∷ []) b o before-there $
             assigns ! (bin ! (load ! (from ! (stop !)) (look ! 1 refl)) (lit ! tt) (record { fits = far })) (from ! (stop !)) (init ! 13 refl (tt, record { fits = far })) $
             assigns ! (bin ! (load ! (from ! (fld ! refl (stop !))) (look_in ! 19 (sub ! 0 refl (whole !)))) (load ! (from ! (stop !)) (look ! 13 refl)) tt) (from ! (stop !)) (init ! 14 refl (tt, tt)) $
             rewrite ! 14 (λ (p : ℕ). ‵ (fat full_share ty_ptr l₁₉ 0 (vptr b p))) (sym (place_is 24 o a)) refl $
-            elem_out ! R (Is R) (shows 𝓛 R) (LL.vals T.the_type T'.the_laws) (LL.tells T.the_type T'.the_laws) q' ys a noEntry b o in_list (λ g₃.
+            elem_out ! R (Is R) (shows 𝓛 R) (LL.vals T.the_type T'.the_laws) (LL.tells T.the_type T'.the_laws) q' ys a no_entry b o in_list (λ g₃.
             assigns ! (of_opd ! (load ! (from ! (hop ! (look ! 16 refl) (fld ! refl (stop !)))) (look_in ! 0 (sub ! 1 refl (whole !))))) (from ! (stop !)) (init ! 17 refl (tt, record { fits = g₃.1.1.1.0.1 })) $
-            elem_back ! R q' ys a noEntry (T'.lowered (get_or ys a noEntry) ∷ []) b o in_list $
+            elem_back ! R q' ys a no_entry (T'.lowered (get_or ys a no_entry) ∷ []) b o in_list $
             assigns ! (bin ! (load ! (from ! (stop !)) (look ! 1 refl)) (lit ! tt) (record { fits = far })) (from ! (stop !)) (init ! 16 refl (tt, record { fits = far })) $
             assigns ! (bin ! (load ! (from ! (fld ! refl (stop !))) (look_in ! 19 (sub ! 0 refl (whole !)))) (load ! (from ! (stop !)) (look ! 16 refl)) tt) (from ! (stop !)) (init ! 17 refl (tt, tt)) $
             rewrite ! 17 (λ (p : ℕ). ‵ (fat full_share ty_ptr l₂₂ 0 (vptr b p))) (sym (place_is 24 o a)) refl $
-            elem_out ! R (Is R) (shows 𝓛 R) (LL.vals T.the_type T'.the_laws) (LL.tells T.the_type T'.the_laws) q' ys a noEntry b o in_list (λ g₄.
+            elem_out ! R (Is R) (shows 𝓛 R) (LL.vals T.the_type T'.the_laws) (LL.tells T.the_type T'.the_laws) q' ys a no_entry b o in_list (λ g₄.
             assigns ! (of_opd ! (load ! (from ! (hop ! (look ! 19 refl) (fld ! refl (stop !)))) (look_in ! 0 (sub ! 2 refl (whole !))))) (from ! (stop !)) (init ! 20 refl (tt, record { fits = g₄.1.1.1.1.0.1 })) $
-            elem_back ! R q' ys a noEntry (T'.lowered (get_or ys a noEntry) ∷ []) b o in_list $
+            elem_back ! R q' ys a no_entry (T'.lowered (get_or ys a no_entry) ∷ []) b o in_list $
             -- the test
             use0 𝓛 (raw ((Test 𝓛 mem run).pre (to-test a c))) (goes-test a c a-fits (going-small ys n u v c₀ can (suc a) c g) (comparable ys n u v c₀ can a c g) (countable ys n u v c₀ can a c g) g₁.1.1.1.0.1 g₂.1.1.1.1.0.1 g₃.1.1.1.0.1 g₄.1.1.1.1.0.1) $
             calls_at ! fm (Test 𝓛 mem run) known-test (to-test a c)
@@ -450,7 +450,7 @@ module _ {M : Type 1} {𝓤 : Ura M} (𝓛 : Logic 𝓤) (mem : Memory → SProp
   scan-walks = walked 𝓛 call.ended stayed (call.clauses 𝓛 mem run) (WpFn 𝓤 H 𝓣.C 𝓣.Λ code.function)
       (λ κs. (shr_slice_vals, (uint_vals w64, (uint_vals w64, (uint_vals w64, (LL.vals Tl.the_type Tl'.the_laws, tt))))))
       (λ κs. (shr_slice_Tells (named 0) κs.0 R, (uint_Tells w64, (uint_Tells w64, (uint_Tells w64, (LL.tells Tl.the_type Tl'.the_laws, tt))))))
-      (λ κs qs bounds a g are. needs 𝓤 (Scannable (lossesIn a.0.now) (weightsIn a.0.now) a.1.0 a.1.1.0 a.1.1.1.0 a.1.1.1.1.0.count) _ (λ can.
+      (λ κs qs bounds a g are. needs 𝓤 (Scannable (losses_in a.0.now) (weights_in a.0.now) a.1.0 a.1.1.0 a.1.1.1.0 a.1.1.1.1.0.count) _ (λ can.
       walk 𝓛 mem run κs.0 qs.0 a.0.ref_ptr.0 a.0.ref_ptr.1 0 a.0.now a.1.0 a.1.1.0 a.1.1.1.0 a.1.1.1.1.0 can
       are.0.0.1 are.1.0.1 are.1.1.0.1 are.1.1.1.0.1 are.1.1.1.1.0.1.1.0.1 𝓣 known-before known-smaller known-test))
 

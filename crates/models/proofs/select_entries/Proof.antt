@@ -45,18 +45,18 @@ use denote.Triple.Call.{calls_at, calls_at_last}
 use denote.Triple.Clauses.{ensured, lasts}
 use denote.Triple.Table.{entered, cited}
 use denote.Triple.Walked.{says, Stays, stay_none, stay_none_slice, walk_of, Goes-none, Goes-none_slice, Walks, ends_at, walked, walk_Meets}
-use Rattle.path.specs.Refusal.{validPath, maxLoss, maxWeight}
-use Rattle.select.specs.Penalty.{validPenalty}
-use Rattle.select.specs.Select.{selectOf}
+use Rattle.path.specs.Refusal.{valid_path, max_loss, max_weight}
+use Rattle.select.specs.Penalty.{valid_penalty}
+use Rattle.select.specs.Select.{select_of}
 use Rattle.select.specs.declared.SelectResult.{SelectResult}
 use Rattle.select.specs.contracts.SelectResult as S
 use Rattle.select.proofs.SelectResult.TheLaws as S'
-use Rattle.models.specs.Entries.{listsIn}
-use Rattle.models.specs.Inner.{noEntry}
-use Rattle.models.specs.InPlace.{walkFrom, walkOn}
+use Rattle.models.specs.Entries.{lists_in}
+use Rattle.models.specs.Inner.{no_entry}
+use Rattle.models.specs.InPlace.{walk_from, walk_on}
 use Rattle.models.specs.declared.Entry.{Entry}
 use Rattle.models.specs.declared.Walk.{Walk}
-use Rattle.models.proofs.Looks.{model_in}
+use Rattle.models.proofs.Looks.{model_at-lists_in}
 use Rattle.models.proofs.Walking.{Walking, walk_start, walk-there, walk-asks, walk-on, walk-less, walk_ends}
 use Rattle.models.specs.contracts.Entry as T
 use Rattle.models.proofs.Entry.TheLaws as T'
@@ -171,11 +171,11 @@ module _ {M : Type 1} {𝓤 : Ura M} (𝓛 : Logic 𝓤) (mem : Memory → SProp
 
   -- What is to be told.
   abbrev answer : SelectResult
-  answer = selectOf (listsIn ys) n u v
+  answer = select_of (lists_in ys) n u v
 
   -- What a walk has come to.
   abbrev Come : Walk → Type 0
-  Come w = Walking (listsIn ys) n u v w
+  Come w = Walking (lists_in ys) n u v w
 
   abbrev Post : Val → SProp 𝓤
   Post = (walk_of 𝓛 call.ended stayed (call.clauses 𝓛 mem run)).post ((κs, qs, tt, a, vals), tt)
@@ -195,8 +195,8 @@ module _ {M : Type 1} {𝓤 : Ura M} (𝓛 : Logic 𝓤) (mem : Memory → SProp
   goes-tested =
       qed 𝓛 (tokens ∷ list ∷ []) ∵ nothing ! $ owned ! usize (Is usize) (uint_Makes 𝓛 w64) n _ (refl, n-fits) $ fjoin ! $ move ! (2 ∷ 0 ∷ []) $ fjoin ! $ move ! (1 ∷ 0 ∷ []) $ join ! $ frame ! $ done !
 
-  tested-of : (r : Bool) → ent 𝓤 (ensured 𝓛 tested.ended (tested.clauses 𝓛 mem run) κs (x, (n, tt)) tt r) (fact 𝓤 (r ≡ validPath (listsIn ys) n))
-  tested-of r = ex_e 𝓤 _ (λ ws. snd∗ 𝓤 (sem 𝓛 (lasts tested.ended κs (x, (n, tt)) ws)) (fact 𝓤 (r ≡ validPath (listsIn ys) n)))
+  tested-of : (r : Bool) → ent 𝓤 (ensured 𝓛 tested.ended (tested.clauses 𝓛 mem run) κs (x, (n, tt)) tt r) (fact 𝓤 (r ≡ valid_path (lists_in ys) n))
+  tested-of r = ex_e 𝓤 _ (λ ws. snd∗ 𝓤 (sem 𝓛 (lasts tested.ended κs (x, (n, tt)) ws)) (fact 𝓤 (r ≡ valid_path (lists_in ys) n)))
 
   module _ (r : Bool) where
     abbrev to-begun : (Begun 𝓛 mem run).Ghost
@@ -207,8 +207,8 @@ module _ {M : Type 1} {𝓤 : Ura M} (𝓛 : Logic 𝓤) (mem : Memory → SProp
         qed 𝓛 (‵ ftrue ∷ []) ∵ nothing ! $ owned ! u64 (Is u64) (uint_Makes 𝓛 w64) v _ (refl, v-fits) $ fjoin ! $ owned ! u64 (Is u64) (uint_Makes 𝓛 w64) u _ (refl, u-fits) $ fjoin ! $
         owned ! usize (Is usize) (uint_Makes 𝓛 w64) n _ (refl, n-fits) $ fjoin ! $ owned ! bool (Is bool) (bool_Makes 𝓛) r _ refl $ fjoin ! $ move ! (1 ∷ 0 ∷ []) $ join ! $ frame ! $ done !
 
-    begun-of : (d : Walk) → ent 𝓤 (ensured 𝓛 begun.ended (begun.clauses 𝓛 mem run) tt (r, (n, (u, (v, tt)))) tt d) (fact 𝓤 (d ≡ walkFrom r n u v))
-    begun-of d = ex_e 𝓤 _ (λ ws. snd∗ 𝓤 (sem 𝓛 (lasts begun.ended tt (r, (n, (u, (v, tt)))) ws)) (fact 𝓤 (d ≡ walkFrom r n u v)))
+    begun-of : (d : Walk) → ent 𝓤 (ensured 𝓛 begun.ended (begun.clauses 𝓛 mem run) tt (r, (n, (u, (v, tt)))) tt d) (fact 𝓤 (d ≡ walk_from r n u v))
+    begun-of d = ex_e 𝓤 _ (λ ws. snd∗ 𝓤 (sem 𝓛 (lasts begun.ended tt (r, (n, (u, (v, tt)))) ws)) (fact 𝓤 (d ≡ walk_from r n u v)))
 
   module _ (w : Walk) (fits : Fits w) where
     abbrev to-answered : (Answered 𝓛 mem run).Ghost
@@ -224,13 +224,13 @@ module _ {M : Type 1} {𝓤 : Ura M} (𝓛 : Logic 𝓤) (mem : Memory → SProp
       abbrev to-stepped : (Stepped 𝓛 mem run).Ghost
       to-stepped = ((tt, tt, tt, (w, (e, (u, (v, tt)))), (L'.lowered w ∷ [], (T'.lowered e ∷ [], (vint w64 u ∷ [], (vint w64 v ∷ [], tt))))), tt)
 
-      goes-stepped : (w.next < w.end) × (validPenalty u v ≡ true) × (e.loss ≤ maxLoss) × (e.weight ≤ maxWeight) → ent 𝓤 (sem 𝓛 ftrue) ((Stepped 𝓛 mem run).pre to-stepped)
+      goes-stepped : (w.next < w.end) × (valid_penalty u v ≡ true) × (e.loss ≤ max_loss) × (e.weight ≤ max_weight) → ent 𝓤 (sem 𝓛 ftrue) ((Stepped 𝓛 mem run).pre to-stepped)
       goes-stepped h =
           qed 𝓛 (‵ ftrue ∷ []) ∵ nothing ! $ owned ! u64 (Is u64) (uint_Makes 𝓛 w64) v _ (refl, v-fits) $ fjoin ! $ owned ! u64 (Is u64) (uint_Makes 𝓛 w64) u _ (refl, u-fits) $ fjoin ! $
           owned ! R (Is R) (LL.makes T.the_type T'.the_plain 𝓛) e _ e-fits $ fjoin ! $ owned ! Q (Is Q) (LL.makes L.the_type L'.the_plain 𝓛) w _ fits $ fjoin ! $ move ! (1 ∷ 0 ∷ []) $ says ! h $ done !
 
-      stepped-of : (d : Walk) → ent 𝓤 (ensured 𝓛 stepped.ended (stepped.clauses 𝓛 mem run) tt (w, (e, (u, (v, tt)))) tt d) (fact 𝓤 (d ≡ walkOn w e u v))
-      stepped-of d = ex_e 𝓤 _ (λ ws. snd∗ 𝓤 (sem 𝓛 (lasts stepped.ended tt (w, (e, (u, (v, tt)))) ws)) (fact 𝓤 (d ≡ walkOn w e u v)))
+      stepped-of : (d : Walk) → ent 𝓤 (ensured 𝓛 stepped.ended (stepped.clauses 𝓛 mem run) tt (w, (e, (u, (v, tt)))) tt d) (fact 𝓤 (d ≡ walk_on w e u v))
+      stepped-of d = ex_e 𝓤 _ (λ ws. snd∗ 𝓤 (sem 𝓛 (lasts stepped.ended tt (w, (e, (u, (v, tt)))) ws)) (fact 𝓤 (d ≡ walk_on w e u v)))
 
   module _ (𝓣 : Tables 𝓤 H) (known : Callees 𝓛 mem run 𝓣.C) (l₀ l₁ l₂ l₃ l₄ l₅ l₆ l₇ l₈ l₉ l₁₀ l₁₁ : ℕ) where
     abbrev C : Calls 𝓤 H
@@ -278,10 +278,10 @@ module _ {M : Type 1} {𝓤 : Ura M} (𝓛 : Logic 𝓤) (mem : Memory → SProp
         i = w.next
 
         abbrev e : Entry
-        e = get_or ys i noEntry
+        e = get_or ys i no_entry
 
         abbrev w' : Walk
-        w' = walkOn w e u v
+        w' = walk_on w e u v
 
         more : (X : SProp 𝓤) → i < w.end → (Fits w' → ent 𝓤 (⋆ 𝓛 (At w')) X) → ent 𝓤 (⋆ 𝓛 (At w)) (Wp 𝓤 H C Λ Ev turn (after_turn 𝓤 H X Left))
         unfolding after_turn
@@ -294,11 +294,11 @@ module _ {M : Type 1} {𝓤 : Ura M} (𝓛 : Logic 𝓤) (mem : Memory → SProp
             assigns ! (bin ! (load ! (from ! (stop !)) (look ! 2 refl)) (lit ! tt) (record { fits = far })) (from ! (stop !)) (init ! 4 refl (tt, record { fits = far })) $
             assigns ! (bin ! (load ! (from ! (fld ! refl (stop !))) (look_in ! 7 (sub ! 0 refl (whole !)))) (load ! (from ! (stop !)) (look ! 4 refl)) tt) (from ! (stop !)) (init ! 5 refl (tt, tt)) $
             rewrite ! 5 (λ (p : ℕ). ‵ (fat full_share ty_ptr l₁₀ 0 (vptr b p))) (sym (place_is 24 o i)) refl $
-            elem_out ! R (Is R) (shows 𝓛 R) (LL.vals T.the_type T'.the_laws) (LL.tells T.the_type T'.the_laws) q' ys i noEntry b o there (λ g.
+            elem_out ! R (Is R) (shows 𝓛 R) (LL.vals T.the_type T'.the_laws) (LL.tells T.the_type T'.the_laws) q' ys i no_entry b o there (λ g.
             -- [the entry; what it owns; the others; the walk; ..]
             assigns ! (of_opd ! (load ! (from ! (hop ! (look ! 7 refl) (stop !))) (look_raw ! 0 refl))) (from ! (stop !)) (init ! 8 refl ((LL.lawful T.the_type T'.the_laws 𝓛).typed e _ g).0) $
-            elem_back ! R q' ys i noEntry (T'.lowered e ∷ []) b o there $
-            use0 𝓛 (raw ((Stepped 𝓛 mem run).pre (to-stepped w fits e g))) (goes-stepped w fits e g (walk-asks (listsIn ys) n u v w e (model_in ys i) less come)) $
+            elem_back ! R q' ys i no_entry (T'.lowered e ∷ []) b o there $
+            use0 𝓛 (raw ((Stepped 𝓛 mem run).pre (to-stepped w fits e g))) (goes-stepped w fits e g (walk-asks (lists_in ys) n u v w e (model_at-lists_in ys i) less come)) $
             calls_at_last ! fm (Stepped 𝓛 mem run) known.known-stepped (to-stepped w fits e g)
             (and_then ! (load ! (from ! (stop !)) (look ! 2 refl)) (and_then ! (load ! (from ! (stop !)) (look ! 7 refl)) (and_then ! (load ! (from ! (stop !)) (look ! 10 refl)) (and_then ! (load ! (from ! (stop !)) (look ! 11 refl)) (no_more !))))) (λ m.
             use1 𝓛 (later (some (λ (d : Walk). (‵ ftrue ⊛ ‵ (Q.own d (m ∷ []))) ⊛ raw (ensured 𝓛 stepped.ended (stepped.clauses 𝓛 mem run) tt (w, (e, (u, (v, tt)))) tt d)))) (id⊢ 𝓤 _) $
@@ -347,7 +347,7 @@ module _ {M : Type 1} {𝓤 : Ura M} (𝓛 : Logic 𝓤) (mem : Memory → SProp
             move ! (2 ∷ 5 ∷ []) $ free1 ! $ move ! (2 ∷ 4 ∷ []) $ free1 ! $ free0 ! $
             -- [what the answer owns; the token; the list]
             nothing ! $ move ! (2 ∷ 0 ∷ []) $ join ! $ keep ! (0 ∷ 2 ∷ 1 ∷ []) $
-            by ! (exits d m (told ∙ walk_ends (listsIn ys) n u v w none come))))))
+            by ! (exits d m (told ∙ walk_ends (lists_in ys) n u v w none come))))))
 
       known_on : (t : ℕ) (w : Walk) → Known t w → ent 𝓤 (⋆ 𝓛 (At w)) (Inv t)
       known_on t w h = via 𝓤 (guard 𝓤 (Known t w) (⋆ 𝓛 (At w))) (guard_i 𝓤 (Known t w) (⋆ 𝓛 (At w)) h) (ex_i 𝓤 (λ (z : Walk). guard 𝓤 (Known t z) (⋆ 𝓛 (At z))) w)
@@ -364,10 +364,10 @@ module _ {M : Type 1} {𝓤 : Ura M} (𝓛 : Logic 𝓤) (mem : Memory → SProp
       turn_at zero w h = ends w h.1 h.2 (Below zero) (omega (arith, h.0))
       turn_at (suc t) w h =
           let less : w.next < w.end = omega (arith, h.0) in
-          let e = get_or ys w.next noEntry in
+          let e = get_or ys w.next no_entry in
           more w h.1 h.2 (Below (suc t)) less (λ fits.
-          below (suc t) (walkOn w e u v) (walk-on (listsIn ys) n u v w e (model_in ys w.next) less h.1) fits
-          (subst (λ (j : ℕ). left (walkOn w e u v) < j) h.0 (walk-less (listsIn ys) n u v w e (model_in ys w.next) less)))
+          below (suc t) (walk_on w e u v) (walk-on (lists_in ys) n u v w e (model_at-lists_in ys w.next) less h.1) fits
+          (subst (λ (j : ℕ). left (walk_on w e u v) < j) h.0 (walk-less (lists_in ys) n u v w e (model_at-lists_in ys w.next) less)))
 
       turns : (t : ℕ) → ent 𝓤 (Inv t) (Wp 𝓤 H C Λ Ev turn (after_turn 𝓤 H (Below t) Left))
       turns t = ex_e 𝓤 (λ (w : Walk). guard 𝓤 (Known t w) (⋆ 𝓛 (At w))) (λ w. guard_e 𝓤 (Known t w) (⋆ 𝓛 (At w)) (λ h. turn_at t w h))
@@ -404,8 +404,8 @@ module _ {M : Type 1} {𝓤 : Ura M} (𝓛 : Logic 𝓤) (mem : Memory → SProp
         calls_at ! fm (Tested 𝓛 mem run) known.known-tested to-tested (and_then ! (load ! (from ! (stop !)) (look ! 23 refl)) (and_then ! (load ! (from ! (stop !)) (look ! 21 refl)) (no_more !))) (λ m.
         use1 𝓛 (later (some (λ (r : Bool). (tokens ⊛ ‵ (bool.own_val r (m ∷ []))) ⊛ raw (ensured 𝓛 tested.ended (tested.clauses 𝓛 mem run) κs (x, (n, tt)) tt r)))) (id⊢ 𝓤 _) $
         await ! tt $ pick ! (λ r. split ! $ move ! (1 ∷ []) $
-        use1 𝓛 (raw (fact 𝓤 (r ≡ validPath (listsIn ys) n))) (tested-of r) $
-        heard ! (r ≡ validPath (listsIn ys) n) (λ tested-is.
+        use1 𝓛 (raw (fact 𝓤 (r ≡ valid_path (lists_in ys) n))) (tested-of r) $
+        heard ! (r ≡ valid_path (lists_in ys) n) (λ tested-is.
         split ! $ move ! (1 ∷ []) $
         facts ! bool (Is bool) (shows 𝓛 bool) r (m ∷ []) (λ is-bool.
         -- [the tokens; the list; the numbers; ..]
@@ -416,13 +416,13 @@ module _ {M : Type 1} {𝓤 : Ura M} (𝓛 : Logic 𝓤) (mem : Memory → SProp
         (and_then ! (load ! (from ! (stop !)) (look ! 12 refl)) (and_then ! (load ! (from ! (stop !)) (look ! 22 refl)) (and_then ! (load ! (from ! (stop !)) (look ! 20 refl)) (and_then ! (load ! (from ! (stop !)) (look ! 18 refl)) (no_more !))))) (λ m'.
         use1 𝓛 (later (some (λ (d : Walk). (‵ ftrue ⊛ ‵ (Q.own d (m' ∷ []))) ⊛ raw (ensured 𝓛 begun.ended (begun.clauses 𝓛 mem run) tt (r, (n, (u, (v, tt)))) tt d)))) (id⊢ 𝓤 _) $
         await ! tt $ pick ! (λ d. split ! $ move ! (1 ∷ []) $
-        use1 𝓛 (raw (fact 𝓤 (d ≡ walkFrom r n u v))) (begun-of r d) $
-        heard ! (d ≡ walkFrom r n u v) (λ begun-is.
+        use1 𝓛 (raw (fact 𝓤 (d ≡ walk_from r n u v))) (begun-of r d) $
+        heard ! (d ≡ walk_from r n u v) (λ begun-is.
         split ! $ drop ! $
         facts ! Q (Is Q) (shows 𝓛 Q) d (m' ∷ []) (λ is.
         land ! (from ! (stop !)) (init ! 15 refl ((LL.lawful L.the_type L'.the_laws 𝓛).typed d _ is).0) $
         rewrite ! 15 (λ (z : Val). ‵ (fat full_share L'.mir l₅ 0 z)) (ap only (LL.tells L.the_type L'.the_laws d (m' ∷ []) is)) refl $
-        opens r d (subst Come (sym (begun-is ∙ ap (λ (z : Bool). walkFrom z n u v) tested-is)) (walk_start (listsIn ys) n u v)) (subst (Is Q d) (LL.tells L.the_type L'.the_laws d (m' ∷ []) is) is)))))))))
+        opens r d (subst Come (sym (begun-is ∙ ap (λ (z : Bool). walk_from z n u v) tested-is)) (walk_start (lists_in ys) n u v)) (subst (Is Q d) (LL.tells L.the_type L'.the_laws d (m' ∷ []) is) is)))))))))
 
   walk : (𝓣 : Tables 𝓤 H) → Callees 𝓛 mem run 𝓣.C → ent 𝓤 (on_entry 𝓛 call.signature κs qs a vals) (WpFn 𝓤 H 𝓣.C 𝓣.Λ code.function (s-val ∷ vint w64 n ∷ vint w64 u ∷ vint w64 v ∷ []) Post)
   walk 𝓣 known =

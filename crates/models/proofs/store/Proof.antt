@@ -44,7 +44,7 @@ use denote.Steps.{nothing, owned}
 use denote.Triple.Spec.{Meets, triple_of}
 use denote.Triple.Table.{entered}
 use denote.Triple.Walked.{says, needs, Stays, stay_none, stay_slice, walk_of, Walks, ends_at, walked, Goes-none, Goes-slice, walk_Meets}
-use Rattle.models.specs.Inner.{entry_of, noEntry}
+use Rattle.models.specs.Inner.{entry_of, no_entry}
 use Rattle.models.specs.declared.Entry.{Entry}
 use Rattle.models.proofs.Stores.{put, length-put, lists-put}
 use Rattle.models.specs.contracts.Entry as T
@@ -186,13 +186,13 @@ module _ {M : Type 1} {𝓤 : Ura M} (𝓛 : Logic 𝓤) (mem : Memory → SProp
           assigns ! (bin ! (load ! (from ! (stop !)) (look ! 1 refl)) (lit ! tt) (record { fits = far })) (from ! (stop !)) (init ! 4 refl (tt, record { fits = far })) $
           assigns ! (bin ! (load ! (from ! (fld ! refl (stop !))) (look_in ! 6 (sub ! 0 refl (whole !)))) (load ! (from ! (stop !)) (look ! 4 refl)) tt) (from ! (stop !)) (init ! 5 refl (tt, tt)) $
           rewrite ! 5 (λ (p : ℕ). ‵ (fat full_share ty_ptr l₁₄ 0 (vptr b p))) (sym (place_is 24 o (c + 1 + j))) refl $
-          elem_out ! R (Is R) (shows 𝓛 R) (LL.vals T.the_type T'.the_laws) (LL.tells T.the_type T'.the_laws) full_share (put-to j) (c + 1 + j) noEntry b o there (λ _.
+          elem_out ! R (Is R) (shows 𝓛 R) (LL.vals T.the_type T'.the_laws) (LL.tells T.the_type T'.the_laws) full_share (put-to j) (c + 1 + j) no_entry b o there (λ _.
           assigns ! (of_opd ! (load ! (from ! (stop !)) (look ! 5 refl))) (from ! (hop ! (look ! 7 refl) (stop !))) (store_raw ! 0 refl (tt, (record { fits = lit< tt }, (record { fits = lit< tt }, (record { fits = lit< tt }, tt))))) $
           move ! (1 ∷ []) $
           drop ! $
-          owned ! R (Is R) ((LL.makes T.the_type T'.the_plain) 𝓛) noEntry _ (LL.owes T.the_type T'.the_laws noEntry ((refl, lit< tt), ((refl, lit< tt), ((refl, lit< tt), tt)))) $
+          owned ! R (Is R) ((LL.makes T.the_type T'.the_plain) 𝓛) no_entry _ (LL.owes T.the_type T'.the_laws no_entry ((refl, lit< tt), ((refl, lit< tt), ((refl, lit< tt), tt)))) $
           move ! (1 ∷ 0 ∷ 2 ∷ []) $
-          elem_put ! R full_share (put-to j) (c + 1 + j) noEntry (T'.lowered noEntry ∷ []) b o there $
+          elem_put ! R full_share (put-to j) (c + 1 + j) no_entry (T'.lowered no_entry ∷ []) b o there $
           assigns_last ! (bin ! (load ! (from ! (stop !)) (look ! 1 refl)) (lit ! tt) (record { fits = next_fits })) (from ! (stop !)) (store ! 1 refl (tt, record { fits = next_fits })) $
           forget ! 2 refl $ forget ! 3 refl $ forget ! 4 refl $ forget ! 5 refl $
           rewrite ! 1 (λ (j : ℕ). ‵ (fat full_share word l₇ 0 (vint w64 j))) (one_more) refl $
@@ -274,7 +274,7 @@ module _ {M : Type 1} {𝓤 : Ura M} (𝓛 : Logic 𝓤) (mem : Memory → SProp
           assigns ! (bin ! (load ! (from ! (stop !)) (look ! 31 refl)) (lit ! tt) (record { fits = c-far })) (from ! (stop !)) (init ! 17 refl (tt, record { fits = c-far })) $
           assigns ! (bin ! (load ! (from ! (fld ! refl (stop !))) (look_in ! 33 (sub ! 0 refl (whole !)))) (load ! (from ! (stop !)) (look ! 17 refl)) tt) (from ! (stop !)) (init ! 15 refl (tt, tt)) $
           rewrite ! 15 (λ (p : ℕ). ‵ (fat full_share ty_ptr l₁₀ 0 (vptr b p))) (sym (place_is 24 o c)) refl $
-          elem_out ! R (Is R) (shows 𝓛 R) (LL.vals T.the_type T'.the_laws) (LL.tells T.the_type T'.the_laws) full_share ys c noEntry b o in_List (λ _.
+          elem_out ! R (Is R) (shows 𝓛 R) (LL.vals T.the_type T'.the_laws) (LL.tells T.the_type T'.the_laws) full_share ys c no_entry b o in_List (λ _.
           assigns ! (of_opd ! (load ! (from ! (stop !)) (look ! 21 refl))) (from ! (hop ! (look ! 17 refl) (stop !))) (store_raw ! 0 refl (tt, (record { fits = u-fits }, (record { fits = v-fits }, (record { fits = t-fits }, tt))))) $
           move ! (1 ∷ []) $
           drop ! $

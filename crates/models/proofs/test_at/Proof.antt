@@ -41,8 +41,8 @@ test-requires-2 c κs =
     let a = s.args in (
       omega arith,
       record {
-        in-losses = omega arith;
-        in-weights = omega arith;
+        in_losses = omega arith;
+        in_weights = omega arith;
         countable = omega (arith, s.requires.1);
         near = near_by a.loss0 a.loss1 a.weight0 a.weight1 a.loss a.weight (s.requires.0 (omega arith));
       },

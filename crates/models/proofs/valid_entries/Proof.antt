@@ -45,13 +45,13 @@ use denote.Triple.Call.{calls_at, calls_at_last}
 use denote.Triple.Clauses.{ensured, lasts}
 use denote.Triple.Table.{entered, cited}
 use denote.Triple.Walked.{says, Stays, stay_none, stay_none_slice, walk_of, Goes-none, Goes-none_slice, Walks, ends_at, walked, walk_Meets}
-use Rattle.path.specs.Refusal.{validPath}
-use Rattle.models.specs.Entries.{listsIn}
-use Rattle.models.specs.Inner.{noEntry}
-use Rattle.models.specs.InPlace.{lookFrom, lookOn, lookPasses}
+use Rattle.path.specs.Refusal.{valid_path}
+use Rattle.models.specs.Entries.{lists_in}
+use Rattle.models.specs.Inner.{no_entry}
+use Rattle.models.specs.InPlace.{look_from, look_on, look_passes}
 use Rattle.models.specs.declared.Entry.{Entry}
 use Rattle.models.specs.declared.Look.{Look}
-use Rattle.models.proofs.Looks.{Looking, model_in, look-within, look-on, look-less, look-ends, look-start}
+use Rattle.models.proofs.Looks.{Looking, model_at-lists_in, look-within, look-on, look-less, look-ends, look-start}
 use Rattle.models.specs.contracts.Entry as T
 use Rattle.models.proofs.Entry.TheLaws as T'
 use Rattle.models.specs.contracts.Look as L
@@ -146,11 +146,11 @@ module _ {M : Type 1} {𝓤 : Ura M} (𝓛 : Logic 𝓤) (mem : Memory → SProp
 
   -- What is to be told.
   abbrev valid : Bool
-  valid = validPath (listsIn ys) n
+  valid = valid_path (lists_in ys) n
 
   -- What a look has come to.
   abbrev Come : Look → Type 0
-  Come s = Looking (listsIn ys) n k valid s
+  Come s = Looking (lists_in ys) n k valid s
 
   abbrev Post : Val → SProp 𝓤
   Post = (walk_of 𝓛 call.ended stayed (call.clauses 𝓛 mem run)).post ((κs, qs, tt, a, vals), tt)
@@ -169,8 +169,8 @@ module _ {M : Type 1} {𝓤 : Ura M} (𝓛 : Logic 𝓤) (mem : Memory → SProp
   goes-begun =
       qed 𝓛 (‵ ftrue ∷ []) ∵ nothing ! $ owned ! usize (Is usize) (uint_Makes 𝓛 w64) k _ (refl, room.0) $ fjoin ! $ owned ! usize (Is usize) (uint_Makes 𝓛 w64) n _ (refl, n-fits) $ fjoin ! $ move ! (1 ∷ 0 ∷ []) $ join ! $ frame ! $ done !
 
-  begun-of : (d : Look) → ent 𝓤 (ensured 𝓛 begun.ended (begun.clauses 𝓛 mem run) tt (n, (k, tt)) tt d) (fact 𝓤 (d ≡ lookFrom n k))
-  begun-of d = ex_e 𝓤 _ (λ ws. snd∗ 𝓤 (sem 𝓛 (lasts begun.ended tt (n, (k, tt)) ws)) (fact 𝓤 (d ≡ lookFrom n k)))
+  begun-of : (d : Look) → ent 𝓤 (ensured 𝓛 begun.ended (begun.clauses 𝓛 mem run) tt (n, (k, tt)) tt d) (fact 𝓤 (d ≡ look_from n k))
+  begun-of d = ex_e 𝓤 _ (λ ws. snd∗ 𝓤 (sem 𝓛 (lasts begun.ended tt (n, (k, tt)) ws)) (fact 𝓤 (d ≡ look_from n k)))
 
   module _ (s : Look) (fits : Fits s) where
     abbrev to-passed : (Passed 𝓛 mem run).Ghost
@@ -179,8 +179,8 @@ module _ {M : Type 1} {𝓤 : Ura M} (𝓛 : Logic 𝓤) (mem : Memory → SProp
     goes-passed : ent 𝓤 (sem 𝓛 ftrue) ((Passed 𝓛 mem run).pre to-passed)
     goes-passed = qed 𝓛 (‵ ftrue ∷ []) ∵ nothing ! $ owned ! S (Is S) (LL.makes L.the_type L'.the_plain 𝓛) s _ fits $ fjoin ! $ move ! (1 ∷ 0 ∷ []) $ join ! $ frame ! $ done !
 
-    passed-of : (r : Bool) → ent 𝓤 (ensured 𝓛 passed.ended (passed.clauses 𝓛 mem run) tt (s, tt) tt r) (fact 𝓤 (r ≡ lookPasses s))
-    passed-of r = ex_e 𝓤 _ (λ ws. snd∗ 𝓤 (sem 𝓛 (lasts passed.ended tt (s, tt) ws)) (fact 𝓤 (r ≡ lookPasses s)))
+    passed-of : (r : Bool) → ent 𝓤 (ensured 𝓛 passed.ended (passed.clauses 𝓛 mem run) tt (s, tt) tt r) (fact 𝓤 (r ≡ look_passes s))
+    passed-of r = ex_e 𝓤 _ (λ ws. snd∗ 𝓤 (sem 𝓛 (lasts passed.ended tt (s, tt) ws)) (fact 𝓤 (r ≡ look_passes s)))
 
     module _ (e : Entry) (e-fits : Is R e (T'.lowered e ∷ [])) where
       abbrev to-stepped : (Stepped 𝓛 mem run).Ghost
@@ -190,8 +190,8 @@ module _ {M : Type 1} {𝓤 : Ura M} (𝓛 : Logic 𝓤) (mem : Memory → SProp
       goes-stepped h =
           qed 𝓛 (‵ ftrue ∷ []) ∵ nothing ! $ owned ! R (Is R) (LL.makes T.the_type T'.the_plain 𝓛) e _ e-fits $ fjoin ! $ owned ! S (Is S) (LL.makes L.the_type L'.the_plain 𝓛) s _ fits $ fjoin ! $ move ! (1 ∷ 0 ∷ []) $ says ! h $ done !
 
-      stepped-of : (d : Look) → ent 𝓤 (ensured 𝓛 stepped.ended (stepped.clauses 𝓛 mem run) tt (s, (e, tt)) tt d) (fact 𝓤 (d ≡ lookOn s e))
-      stepped-of d = ex_e 𝓤 _ (λ ws. snd∗ 𝓤 (sem 𝓛 (lasts stepped.ended tt (s, (e, tt)) ws)) (fact 𝓤 (d ≡ lookOn s e)))
+      stepped-of : (d : Look) → ent 𝓤 (ensured 𝓛 stepped.ended (stepped.clauses 𝓛 mem run) tt (s, (e, tt)) tt d) (fact 𝓤 (d ≡ look_on s e))
+      stepped-of d = ex_e 𝓤 _ (λ ws. snd∗ 𝓤 (sem 𝓛 (lasts stepped.ended tt (s, (e, tt)) ws)) (fact 𝓤 (d ≡ look_on s e)))
 
   module _ (𝓣 : Tables 𝓤 H) (known-begun : Triple 𝓤 (𝓣.C #models·look-from) (Begun 𝓛 mem run)) (known-stepped : Triple 𝓤 (𝓣.C #models·look-on) (Stepped 𝓛 mem run))
       (known-passed : Triple 𝓤 (𝓣.C #models·look-passes) (Passed 𝓛 mem run)) (l₀ l₁ l₂ l₃ l₄ l₅ l₆ l₇ l₈ l₉ : ℕ) where
@@ -234,7 +234,7 @@ module _ {M : Type 1} {𝓤 : Ura M} (𝓛 : Logic 𝓤) (mem : Memory → SProp
       Left = after_block 𝓤 H (after_seq 𝓤 H (Wp 𝓤 H C Λ Ev rest (at_return 𝓤 H Ev Post)) (at_return 𝓤 H Ev Post))
 
       -- A turn that looks at entry i.
-      more : (s : Look) (i : ℕ) (X : SProp 𝓤) → s.left ≡ suc i → i < k → Fits s → (Fits (lookOn s (get_or ys i noEntry)) → ent 𝓤 (⋆ 𝓛 (At (lookOn s (get_or ys i noEntry)))) X)
+      more : (s : Look) (i : ℕ) (X : SProp 𝓤) → s.left ≡ suc i → i < k → Fits s → (Fits (look_on s (get_or ys i no_entry)) → ent 𝓤 (⋆ 𝓛 (At (look_on s (get_or ys i no_entry)))) X)
           → ent 𝓤 (⋆ 𝓛 (At s)) (Wp 𝓤 H C Λ Ev turn (after_turn 𝓤 H X Left))
       unfolding after_turn
       more s i X left there fits next =
@@ -247,26 +247,26 @@ module _ {M : Type 1} {𝓤 : Ura M} (𝓛 : Logic 𝓤) (mem : Memory → SProp
           assigns ! (bin ! (load ! (from ! (stop !)) (look ! 2 refl)) (lit ! tt) (record { fits = far })) (from ! (stop !)) (init ! 4 refl (tt, record { fits = far })) $
           assigns ! (bin ! (load ! (from ! (fld ! refl (stop !))) (look_in ! 7 (sub ! 0 refl (whole !)))) (load ! (from ! (stop !)) (look ! 4 refl)) tt) (from ! (stop !)) (init ! 5 refl (tt, tt)) $
           rewrite ! 5 (λ (p : ℕ). ‵ (fat full_share ty_ptr l₈ 0 (vptr b p))) (sym (place_is 24 o i)) refl $
-          elem_out ! R (Is R) (shows 𝓛 R) (LL.vals T.the_type T'.the_laws) (LL.tells T.the_type T'.the_laws) q' ys i noEntry b o there (λ g.
+          elem_out ! R (Is R) (shows 𝓛 R) (LL.vals T.the_type T'.the_laws) (LL.tells T.the_type T'.the_laws) q' ys i no_entry b o there (λ g.
           -- [the entry; what it owns; the others; the look; ..]
           assigns ! (of_opd ! (load ! (from ! (hop ! (look ! 7 refl) (stop !))) (look_raw ! 0 refl))) (from ! (stop !)) (init ! 8 refl ((LL.lawful T.the_type T'.the_laws 𝓛).typed e _ g).0) $
-          elem_back ! R q' ys i noEntry (T'.lowered e ∷ []) b o there $
+          elem_back ! R q' ys i no_entry (T'.lowered e ∷ []) b o there $
           use0 𝓛 (raw ((Stepped 𝓛 mem run).pre (to-stepped s fits e g))) (goes-stepped s fits e g (omega (arith, left))) $
           calls_at_last ! fm (Stepped 𝓛 mem run) known-stepped (to-stepped s fits e g) (and_then ! (load ! (from ! (stop !)) (look ! 2 refl)) (and_then ! (load ! (from ! (stop !)) (look ! 7 refl)) (no_more !))) (λ w.
           use1 𝓛 (later (some (λ (d : Look). (‵ ftrue ⊛ ‵ (S.own d (w ∷ []))) ⊛ raw (ensured 𝓛 stepped.ended (stepped.clauses 𝓛 mem run) tt (s, (e, tt)) tt d)))) (id⊢ 𝓤 _) $
           await ! tt $ pick ! (λ d. split ! $ move ! (1 ∷ []) $
-          use1 𝓛 (raw (fact 𝓤 (d ≡ lookOn s e))) (stepped-of s fits e g d) $
-          heard ! (d ≡ lookOn s e) (λ is-next.
+          use1 𝓛 (raw (fact 𝓤 (d ≡ look_on s e))) (stepped-of s fits e g d) $
+          heard ! (d ≡ look_on s e) (λ is-next.
           split ! $ drop ! $
           rewrite ! 0 (λ (d' : Look). ‵ (S.own d' (w ∷ []))) is-next refl $
-          facts ! S (Is S) (shows 𝓛 S) (lookOn s e) (w ∷ []) (λ is.
-          land_last ! (from ! (stop !)) (store ! 1 refl ((LL.lawful L.the_type L'.the_laws 𝓛).typed (lookOn s e) _ is).0) $
-          rewrite ! 1 (λ (v : Val). ‵ (fat full_share L'.mir l₃ 0 v)) (ap only (LL.tells L.the_type L'.the_laws (lookOn s e) (w ∷ []) is)) refl $
+          facts ! S (Is S) (shows 𝓛 S) (look_on s e) (w ∷ []) (λ is.
+          land_last ! (from ! (stop !)) (store ! 1 refl ((LL.lawful L.the_type L'.the_laws 𝓛).typed (look_on s e) _ is).0) $
+          rewrite ! 1 (λ (v : Val). ‵ (fat full_share L'.mir l₃ 0 v)) (ap only (LL.tells L.the_type L'.the_laws (look_on s e) (w ∷ []) is)) refl $
           forget ! 2 refl $ forget ! 3 refl $ forget ! 4 refl $ forget ! 5 refl $ forget ! 6 refl $
-          by ! (next (subst (Is S (lookOn s e)) (LL.tells L.the_type L'.the_laws (lookOn s e) (w ∷ []) is) is)))))))
+          by ! (next (subst (Is S (look_on s e)) (LL.tells L.the_type L'.the_laws (look_on s e) (w ∷ []) is) is)))))))
         where
           e : Entry
-          e = get_or ys i noEntry
+          e = get_or ys i no_entry
 
           before : s.left - 1 ≡ i
           before = omega (arith, left)
@@ -291,8 +291,8 @@ module _ {M : Type 1} {𝓤 : Ura M} (𝓛 : Logic 𝓤) (mem : Memory → SProp
           calls_at ! fm (Passed 𝓛 mem run) known-passed (to-passed s fits) (and_then ! (load ! (from ! (stop !)) (look ! 2 refl)) (no_more !)) (λ w.
           use1 𝓛 (later (some (λ (r : Bool). (‵ ftrue ⊛ ‵ (bool.own_val r (w ∷ []))) ⊛ raw (ensured 𝓛 passed.ended (passed.clauses 𝓛 mem run) tt (s, tt) tt r)))) (id⊢ 𝓤 _) $
           await ! tt $ pick ! (λ r. split ! $ move ! (1 ∷ []) $
-          use1 𝓛 (raw (fact 𝓤 (r ≡ lookPasses s))) (passed-of s fits r) $
-          heard ! (r ≡ lookPasses s) (λ told.
+          use1 𝓛 (raw (fact 𝓤 (r ≡ look_passes s))) (passed-of s fits r) $
+          heard ! (r ≡ look_passes s) (λ told.
           split ! $ drop ! $
           peeks ! bool (Is bool) (shows 𝓛 bool) r (w ∷ []) (λ is.
           land ! (from ! (stop !)) (init ! 11 refl ((bool_Lawful 𝓛).typed r _ is).0) $
@@ -301,7 +301,7 @@ module _ {M : Type 1} {𝓤 : Ura M} (𝓛 : Logic 𝓤) (mem : Memory → SProp
           move ! (6 ∷ 8 ∷ []) $ free1 ! $ move ! (2 ∷ 7 ∷ []) $ free1 ! $ move ! (2 ∷ 6 ∷ []) $ free1 ! $ move ! (2 ∷ 5 ∷ []) $ free1 ! $ move ! (2 ∷ 4 ∷ []) $ free1 ! $ free0 ! $
           -- [what the answer owns; the token; the list]
           nothing ! $ move ! (2 ∷ 0 ∷ []) $ join ! $ keep ! (0 ∷ 2 ∷ 1 ∷ []) $
-          by ! (exits r w (told ∙ look-ends (listsIn ys) n k valid s none come))))))
+          by ! (exits r w (told ∙ look-ends (lists_in ys) n k valid s none come))))))
 
       known_on : (t : ℕ) (s : Look) → Known t s → ent 𝓤 (⋆ 𝓛 (At s)) (Inv t)
       known_on t s h = via 𝓤 (guard 𝓤 (Known t s) (⋆ 𝓛 (At s))) (guard_i 𝓤 (Known t s) (⋆ 𝓛 (At s)) h) (ex_i 𝓤 (λ (z : Look). guard 𝓤 (Known t z) (⋆ 𝓛 (At z))) s)
@@ -314,11 +314,11 @@ module _ {M : Type 1} {𝓤 : Ura M} (𝓛 : Logic 𝓤) (mem : Memory → SProp
       turn_at : (t : ℕ) (s : Look) → Known t s → ent 𝓤 (⋆ 𝓛 (At s)) (Wp 𝓤 H C Λ Ev turn (after_turn 𝓤 H (Below t) Left))
       turn_at zero s h = ends s (Below zero) h.0 h.1 h.2
       turn_at (suc i) s h =
-          let there : i < k = omega (arith, h.0, look-within (listsIn ys) n k valid s h.1) in
-          let e = get_or ys i noEntry in
+          let there : i < k = omega (arith, h.0, look-within (lists_in ys) n k valid s h.1) in
+          let e = get_or ys i no_entry in
           more s i (Below (suc i)) h.0 there h.2 (λ fits.
-          below (suc i) (lookOn s e) (look-on (listsIn ys) n k valid s i e h.0 (model_in ys i) h.1) fits
-          (subst (λ (j : ℕ). (lookOn s e).left < j) h.0 (look-less (listsIn ys) n k valid s i e h.0 (model_in ys i))))
+          below (suc i) (look_on s e) (look-on (lists_in ys) n k valid s i e h.0 (model_at-lists_in ys i) h.1) fits
+          (subst (λ (j : ℕ). (look_on s e).left < j) h.0 (look-less (lists_in ys) n k valid s i e h.0 (model_at-lists_in ys i))))
 
       turns : (t : ℕ) → ent 𝓤 (Inv t) (Wp 𝓤 H C Λ Ev turn (after_turn 𝓤 H (Below t) Left))
       turns t = ex_e 𝓤 (λ (s : Look). guard 𝓤 (Known t s) (⋆ 𝓛 (At s))) (λ s. guard_e 𝓤 (Known t s) (⋆ 𝓛 (At s)) (λ h. turn_at t s h))
@@ -351,8 +351,8 @@ module _ {M : Type 1} {𝓤 : Ura M} (𝓛 : Logic 𝓤) (mem : Memory → SProp
         calls_at ! fm (Begun 𝓛 mem run) known-begun to-begun (and_then ! (load ! (from ! (stop !)) (look ! 15 refl)) (and_then ! (load ! (from ! (stop !)) (look ! 9 refl)) (no_more !))) (λ w.
         use1 𝓛 (later (some (λ (d : Look). (‵ ftrue ⊛ ‵ (S.own d (w ∷ []))) ⊛ raw (ensured 𝓛 begun.ended (begun.clauses 𝓛 mem run) tt (n, (k, tt)) tt d)))) (id⊢ 𝓤 _) $
         await ! tt $ pick ! (λ d. split ! $ move ! (1 ∷ []) $
-        use1 𝓛 (raw (fact 𝓤 (d ≡ lookFrom n k))) (begun-of d) $
-        heard ! (d ≡ lookFrom n k) (λ told.
+        use1 𝓛 (raw (fact 𝓤 (d ≡ look_from n k))) (begun-of d) $
+        heard ! (d ≡ look_from n k) (λ told.
         split ! $ drop ! $
         facts ! S (Is S) (shows 𝓛 S) d (w ∷ []) (λ is.
         land ! (from ! (stop !)) (init ! 12 refl ((LL.lawful L.the_type L'.the_laws 𝓛).typed d _ is).0) $

@@ -47,10 +47,10 @@ use denote.Triple.Spec.{Meets, triple_of}
 use denote.Triple.Table.{entered}
 use denote.Triple.Walked.{says, needs, Stays, stay_none, stay_none_slice, stay_slice, walk_of, Walks, ends_at, walked, Goes-none, Goes-none_slice, Goes-slice, walk_Meets}
 use Rattle.select.specs.Inner.{Listable}
-use Rattle.models.specs.Entries.{lossesIn, weightsIn}
-use Rattle.models.specs.Inner.{noEntry, lossOf, weightOf}
+use Rattle.models.specs.Entries.{losses_in, weights_in}
+use Rattle.models.specs.Inner.{no_entry, loss_of, weight_of}
 use Rattle.models.specs.declared.Entry.{Entry}
-use Rattle.models.proofs.Neighbours.{lossFall, weightRise, listed, length-listed, falls-written, rises-written, Turn, turn-of}
+use Rattle.models.proofs.Neighbours.{loss_fall, weight_rise, listed, length-listed, falls-written, rises-written, Turn, turn-of}
 use Rattle.models.specs.contracts.Entry as T
 use Rattle.models.proofs.Entry.TheLaws as T'
 use Rattle.models.specs.contracts.write_breakpoints.Key.{name as #models·write-breakpoints}
@@ -85,7 +85,7 @@ stayed = (stay_none_slice (0 ∷ []) tt (plain (λ _. R)) yes, (stay_none (λ _.
 
 module _ {M : Type 1} {𝓤 : Ura M} (𝓛 : Logic 𝓤) (mem : Memory → SProp 𝓤) (run : Routine → Fun 𝓤) (κ κ₁ κ₂ : Lft) (q q₁ q₂ : Share)
     (b o : ℕ) (γ : GName) (ys : List Entry) (c : ℕ) (b₁ o₁ : ℕ) (γ₁ : GName) (zs₁ : List ℕ) (b₂ o₂ : ℕ) (γ₂ : GName) (zs₂ : List ℕ)
-    (can : Listable (lossesIn ys) (weightsIn ys) c (length zs₁) (length zs₂)) where
+    (can : Listable (losses_in ys) (weights_in ys) c (length zs₁) (length zs₂)) where
   open 𝓛 use {H}
 
   abbrev n : ℕ
@@ -99,16 +99,16 @@ module _ {M : Type 1} {𝓤 : Ura M} (𝓛 : Logic 𝓤) (mem : Memory → SProp
 
   -- What the buffers hold after i turns.
   abbrev nums-to : ℕ → List ℕ
-  nums-to i = listed lossFall ys zs₁ i
+  nums-to i = listed loss_fall ys zs₁ i
 
   abbrev dens-to : ℕ → List ℕ
-  dens-to i = listed weightRise ys zs₂ i
+  dens-to i = listed weight_rise ys zs₂ i
 
   nums-kept : (i : ℕ) → length (nums-to i) ≡ k₁
-  nums-kept i = length-listed lossFall ys zs₁ i
+  nums-kept i = length-listed loss_fall ys zs₁ i
 
   dens-kept : (i : ℕ) → length (dens-to i) ≡ k₂
-  dens-kept i = length-listed weightRise ys zs₂ i
+  dens-kept i = length-listed weight_rise ys zs₂ i
 
   abbrev x₁ : List ℕ → Bor (List ℕ)
   x₁ zs = record { ref_ptr = (b₁, o₁); ghost_name = γ₁; now = zs }
@@ -142,7 +142,7 @@ module _ {M : Type 1} {𝓤 : Ura M} (𝓛 : Logic 𝓤) (mem : Memory → SProp
     exits =
         qed 𝓛 Closed ∵
         suffices ! _ (ends_at 𝓛 call.ended stayed (call.clauses 𝓛 mem run) ((κs, qs, tt, x, at), tt) vunit tt (tt, (tt, (nums-to c, (dens-to c, tt)))) (tt, (tt, (nums-kept c, (dens-kept c, tt))))) $
-        says ! (falls-written ys zs₁ c can.numerators-fit, rises-written ys zs₂ c can.denominators-fit) $
+        says ! (falls-written ys zs₁ c can.numerators_fit, rises-written ys zs₂ c can.denominators_fit) $
         nothing ! $
         move ! (9 ∷ 0 ∷ []) $
         join ! $
@@ -219,15 +219,15 @@ module _ {M : Type 1} {𝓤 : Ura M} (𝓛 : Logic 𝓤) (mem : Memory → SProp
             assigns ! (bin ! (load ! (from ! (stop !)) (look ! 3 refl)) (lit ! tt) (record { fits = far })) (from ! (stop !)) (init ! 6 refl (tt, record { fits = far })) $
             assigns ! (bin ! (load ! (from ! (fld ! refl (stop !))) (look_in ! 18 (sub ! 0 refl (whole !)))) (load ! (from ! (stop !)) (look ! 6 refl)) tt) (from ! (stop !)) (init ! 7 refl (tt, tt)) $
             rewrite ! 7 (λ (p : ℕ). ‵ (fat full_share ty_ptr l₉ 0 (vptr b p))) (sym (place_is 24 o i)) refl $
-            elem_out ! R (Is R) (shows 𝓛 R) (LL.vals T.the_type T'.the_laws) (LL.tells T.the_type T'.the_laws) q' ys i noEntry b o there (λ g.
+            elem_out ! R (Is R) (shows 𝓛 R) (LL.vals T.the_type T'.the_laws) (LL.tells T.the_type T'.the_laws) q' ys i no_entry b o there (λ g.
             assigns ! (of_opd ! (load ! (from ! (hop ! (look ! 9 refl) (fld ! refl (stop !)))) (look_in ! 0 (sub ! 1 refl (whole !))))) (from ! (stop !)) (init ! 10 refl (tt, record { fits = g.1.1.1.0.1 })) $
-            elem_back ! R q' ys i noEntry (T'.lowered (get_or ys i noEntry) ∷ []) b o there $
+            elem_back ! R q' ys i no_entry (T'.lowered (get_or ys i no_entry) ∷ []) b o there $
             assigns ! (bin ! (load ! (from ! (stop !)) (look ! 4 refl)) (lit ! tt) (record { fits = next-far })) (from ! (stop !)) (init ! 9 refl (tt, record { fits = next-far })) $
             assigns ! (bin ! (load ! (from ! (fld ! refl (stop !))) (look_in ! 18 (sub ! 0 refl (whole !)))) (load ! (from ! (stop !)) (look ! 9 refl)) tt) (from ! (stop !)) (init ! 10 refl (tt, tt)) $
             rewrite ! 10 (λ (p : ℕ). ‵ (fat full_share ty_ptr l₁₂ 0 (vptr b p))) (sym (place_is 24 o (i + 1))) refl $
-            elem_out ! R (Is R) (shows 𝓛 R) (LL.vals T.the_type T'.the_laws) (LL.tells T.the_type T'.the_laws) q' ys (i + 1) noEntry b o next-there (λ h.
+            elem_out ! R (Is R) (shows 𝓛 R) (LL.vals T.the_type T'.the_laws) (LL.tells T.the_type T'.the_laws) q' ys (i + 1) no_entry b o next-there (λ h.
             assigns ! (of_opd ! (load ! (from ! (hop ! (look ! 12 refl) (fld ! refl (stop !)))) (look_in ! 0 (sub ! 1 refl (whole !))))) (from ! (stop !)) (init ! 13 refl (tt, record { fits = h.1.1.1.0.1 })) $
-            elem_back ! R q' ys (i + 1) noEntry (T'.lowered (get_or ys (i + 1) noEntry) ∷ []) b o next-there $
+            elem_back ! R q' ys (i + 1) no_entry (T'.lowered (get_or ys (i + 1) no_entry) ∷ []) b o next-there $
             assigns ! (bin ! (load ! (from ! (stop !)) (look ! 8 refl)) (load ! (from ! (stop !)) (look ! 11 refl)) falls) (from ! (stop !)) (init ! 12 refl (tt, record { fits = (fall-fits g.1.1.1.0.1) })) $
             assigns ! (bin ! (load ! (from ! (stop !)) (look ! 3 refl)) (lit ! tt) (record { fits = far₁ })) (from ! (stop !)) (init ! 13 refl (tt, record { fits = far₁ })) $
             assigns ! (bin ! (load ! (from ! (fld ! refl (stop !))) (look_in ! 20 (sub ! 0 refl (whole !)))) (load ! (from ! (stop !)) (look ! 13 refl)) tt) (from ! (stop !)) (init ! 14 refl (tt, tt)) $
@@ -237,23 +237,23 @@ module _ {M : Type 1} {𝓤 : Ura M} (𝓛 : Logic 𝓤) (mem : Memory → SProp
             assigns ! (of_opd ! (load ! (from ! (stop !)) (look ! 14 refl))) (from ! (hop ! (look ! 16 refl) (stop !))) (store ! 0 refl (tt, record { fits = (fall-fits g.1.1.1.0.1) })) $
             move ! (1 ∷ []) $
             drop ! $
-            owned ! u64 (Is u64) (uint_Makes 𝓛 w64) (lossFall (get_or ys i noEntry) (get_or ys (i + 1) noEntry)) _ (refl, (fall-fits g.1.1.1.0.1)) $
+            owned ! u64 (Is u64) (uint_Makes 𝓛 w64) (loss_fall (get_or ys i no_entry) (get_or ys (i + 1) no_entry)) _ (refl, (fall-fits g.1.1.1.0.1)) $
             move ! (1 ∷ 0 ∷ 2 ∷ []) $
-            elem_put ! u64 full_share (nums-to i) i (lossFall (get_or ys i noEntry) (get_or ys (i + 1) noEntry)) (vint w64 (lossFall (get_or ys i noEntry) (get_or ys (i + 1) noEntry)) ∷ []) b₁ o₁ in-nums $
+            elem_put ! u64 full_share (nums-to i) i (loss_fall (get_or ys i no_entry) (get_or ys (i + 1) no_entry)) (vint w64 (loss_fall (get_or ys i no_entry) (get_or ys (i + 1) no_entry)) ∷ []) b₁ o₁ in-nums $
             -- the denominator
             assigns ! (bin ! (load ! (from ! (stop !)) (look ! 4 refl)) (lit ! tt) (record { fits = next-far })) (from ! (stop !)) (store ! 6 refl (tt, record { fits = next-far })) $
             assigns ! (bin ! (load ! (from ! (fld ! refl (stop !))) (look_in ! 18 (sub ! 0 refl (whole !)))) (load ! (from ! (stop !)) (look ! 6 refl)) tt) (from ! (stop !)) (init ! 15 refl (tt, tt)) $
             rewrite ! 15 (λ (p : ℕ). ‵ (fat full_share ty_ptr l₁₇ 0 (vptr b p))) (sym (place_is 24 o (i + 1))) refl $
             move ! (1 ∷ []) $
-            elem_out ! R (Is R) (shows 𝓛 R) (LL.vals T.the_type T'.the_laws) (LL.tells T.the_type T'.the_laws) q' ys (i + 1) noEntry b o next-there (λ u.
+            elem_out ! R (Is R) (shows 𝓛 R) (LL.vals T.the_type T'.the_laws) (LL.tells T.the_type T'.the_laws) q' ys (i + 1) no_entry b o next-there (λ u.
             assigns ! (of_opd ! (load ! (from ! (hop ! (look ! 17 refl) (fld ! refl (stop !)))) (look_in ! 0 (sub ! 2 refl (whole !))))) (from ! (stop !)) (store ! 10 refl (tt, record { fits = u.1.1.1.1.0.1 })) $
-            elem_back ! R q' ys (i + 1) noEntry (T'.lowered (get_or ys (i + 1) noEntry) ∷ []) b o next-there $
+            elem_back ! R q' ys (i + 1) no_entry (T'.lowered (get_or ys (i + 1) no_entry) ∷ []) b o next-there $
             assigns ! (bin ! (load ! (from ! (stop !)) (look ! 3 refl)) (lit ! tt) (record { fits = far })) (from ! (stop !)) (store ! 13 refl (tt, record { fits = far })) $
             assigns ! (bin ! (load ! (from ! (fld ! refl (stop !))) (look_in ! 18 (sub ! 0 refl (whole !)))) (load ! (from ! (stop !)) (look ! 13 refl)) tt) (from ! (stop !)) (init ! 16 refl (tt, tt)) $
             rewrite ! 16 (λ (p : ℕ). ‵ (fat full_share ty_ptr l₁₈ 0 (vptr b p))) (sym (place_is 24 o i)) refl $
-            elem_out ! R (Is R) (shows 𝓛 R) (LL.vals T.the_type T'.the_laws) (LL.tells T.the_type T'.the_laws) q' ys i noEntry b o there (λ v.
+            elem_out ! R (Is R) (shows 𝓛 R) (LL.vals T.the_type T'.the_laws) (LL.tells T.the_type T'.the_laws) q' ys i no_entry b o there (λ v.
             assigns ! (of_opd ! (load ! (from ! (hop ! (look ! 18 refl) (fld ! refl (stop !)))) (look_in ! 0 (sub ! 2 refl (whole !))))) (from ! (stop !)) (store ! 13 refl (tt, record { fits = v.1.1.1.1.0.1 })) $
-            elem_back ! R q' ys i noEntry (T'.lowered (get_or ys i noEntry) ∷ []) b o there $
+            elem_back ! R q' ys i no_entry (T'.lowered (get_or ys i no_entry) ∷ []) b o there $
             assigns ! (bin ! (load ! (from ! (stop !)) (look ! 8 refl)) (load ! (from ! (stop !)) (look ! 11 refl)) rises) (from ! (stop !)) (store ! 12 refl (tt, record { fits = (rise-fits u.1.1.1.1.0.1) })) $
             assigns ! (bin ! (load ! (from ! (stop !)) (look ! 3 refl)) (lit ! tt) (record { fits = far₁ })) (from ! (stop !)) (store ! 9 refl (tt, record { fits = far₁ })) $
             assigns ! (bin ! (load ! (from ! (fld ! refl (stop !))) (look_in ! 21 (sub ! 0 refl (whole !)))) (load ! (from ! (stop !)) (look ! 9 refl)) tt) (from ! (stop !)) (init ! 17 refl (tt, tt)) $
@@ -263,9 +263,9 @@ module _ {M : Type 1} {𝓤 : Ura M} (𝓛 : Logic 𝓤) (mem : Memory → SProp
             assigns ! (of_opd ! (load ! (from ! (stop !)) (look ! 14 refl))) (from ! (hop ! (look ! 19 refl) (stop !))) (store ! 0 refl (tt, record { fits = (rise-fits u.1.1.1.1.0.1) })) $
             move ! (1 ∷ []) $
             drop ! $
-            owned ! u64 (Is u64) (uint_Makes 𝓛 w64) (weightRise (get_or ys i noEntry) (get_or ys (i + 1) noEntry)) _ (refl, (rise-fits u.1.1.1.1.0.1)) $
+            owned ! u64 (Is u64) (uint_Makes 𝓛 w64) (weight_rise (get_or ys i no_entry) (get_or ys (i + 1) no_entry)) _ (refl, (rise-fits u.1.1.1.1.0.1)) $
             move ! (1 ∷ 0 ∷ 2 ∷ []) $
-            elem_put ! u64 full_share (dens-to i) i (weightRise (get_or ys i noEntry) (get_or ys (i + 1) noEntry)) (vint w64 (weightRise (get_or ys i noEntry) (get_or ys (i + 1) noEntry)) ∷ []) b₂ o₂ in-dens $
+            elem_put ! u64 full_share (dens-to i) i (weight_rise (get_or ys i no_entry) (get_or ys (i + 1) no_entry)) (vint w64 (weight_rise (get_or ys i no_entry) (get_or ys (i + 1) no_entry)) ∷ []) b₂ o₂ in-dens $
             move ! (1 ∷ 2 ∷ 0 ∷ []) $
             assigns_last ! (of_opd ! (load ! (from ! (stop !)) (look ! 4 refl))) (from ! (stop !)) (store ! 3 refl (tt, record { fits = next_fits })) $
             forget ! 4 refl $ forget ! 5 refl $ forget ! 6 refl $ forget ! 7 refl $ forget ! 8 refl $ forget ! 9 refl $ forget ! 10 refl $ forget ! 11 refl $ forget ! 12 refl $ forget ! 13 refl $
@@ -300,16 +300,16 @@ module _ {M : Type 1} {𝓤 : Ura M} (𝓛 : Logic 𝓤) (mem : Memory → SProp
             in-dens : i < length (dens-to i)
             in-dens = omega (arith, dens-kept i, here.in-denominators)
 
-            falls : lossOf (get_or ys (i + 1) noEntry) ≤ lossOf (get_or ys i noEntry)
+            falls : loss_of (get_or ys (i + 1) no_entry) ≤ loss_of (get_or ys i no_entry)
             falls = here.fall
 
-            rises : weightOf (get_or ys i noEntry) ≤ weightOf (get_or ys (i + 1) noEntry)
+            rises : weight_of (get_or ys i no_entry) ≤ weight_of (get_or ys (i + 1) no_entry)
             rises = here.rise
 
-            fall-fits : lossOf (get_or ys i noEntry) < 2 ^ 64 → lossFall (get_or ys i noEntry) (get_or ys (i + 1) noEntry) < 2 ^ 64
+            fall-fits : loss_of (get_or ys i no_entry) < 2 ^ 64 → loss_fall (get_or ys i no_entry) (get_or ys (i + 1) no_entry) < 2 ^ 64
             fall-fits h = omega arith
 
-            rise-fits : weightOf (get_or ys (i + 1) noEntry) < 2 ^ 64 → weightRise (get_or ys i noEntry) (get_or ys (i + 1) noEntry) < 2 ^ 64
+            rise-fits : weight_of (get_or ys (i + 1) no_entry) < 2 ^ 64 → weight_rise (get_or ys i no_entry) (get_or ys (i + 1) no_entry) < 2 ^ 64
             rise-fits h = omega arith
 
         -- The turn that leaves the loop, and the rest of the body.
@@ -417,7 +417,7 @@ module _ {M : Type 1} {𝓤 : Ura M} (𝓛 : Logic 𝓤) (mem : Memory → SProp
   write-breakpoints-walks = walked 𝓛 call.ended stayed (call.clauses 𝓛 mem run) (WpFn 𝓤 H 𝓣.C 𝓣.Λ code.function)
       (λ κs. (shr_slice_vals, (uint_vals w64, (shr_slice_vals, (shr_slice_vals, tt)))))
       (λ κs. (shr_slice_Tells (named 0) κs.0 R, (uint_Tells w64, (mut_slice_Tells (named 1) κs.1.0 u64, (mut_slice_Tells (named 2) κs.1.1.0 u64, tt)))))
-      (λ κs qs bounds a g are. needs 𝓤 (Listable (lossesIn a.0.now) (weightsIn a.0.now) a.1.0 (length a.1.1.0.now) (length a.1.1.1.0.now)) _ (λ can.
+      (λ κs qs bounds a g are. needs 𝓤 (Listable (losses_in a.0.now) (weights_in a.0.now) a.1.0 (length a.1.1.0.now) (length a.1.1.1.0.now)) _ (λ can.
       walk 𝓛 mem run κs.0 κs.1.0 κs.1.1.0 qs.0 qs.1.0 qs.1.1.0 a.0.ref_ptr.0 a.0.ref_ptr.1 a.0.ghost_name a.0.now a.1.0
       a.1.1.0.ref_ptr.0 a.1.1.0.ref_ptr.1 a.1.1.0.ghost_name a.1.1.0.now a.1.1.1.0.ref_ptr.0 a.1.1.1.0.ref_ptr.1 a.1.1.1.0.ghost_name a.1.1.1.0.now can
       are.0.0.1 are.1.0.1 are.1.1.0.0.1 are.1.1.1.0.0.1 𝓣))

@@ -10,11 +10,11 @@ use borrow.Author.Tests.{not-true, not-false}
 use Rattle.path.specs.declared.Kept.{Kept}
 use Rattle.path.specs.declared.PathResult.{PathResult}
 use Rattle.path.specs.declared.tally.Tally.{Tally}
-use Rattle.path.specs.Model.{lists, model, pathOf}
-use Rattle.path.specs.Refusal.{check, refusalOf, pathRoom, validPath, modelChecks}
-use Rattle.path.specs.Update.{kept, passedOver}
-use Rattle.path.specs.Append.{pathOutcome}
-use Rattle.path.specs.Inner.{HasPlaces, keptOf}
+use Rattle.path.specs.Model.{lists, model, path_of}
+use Rattle.path.specs.Refusal.{check, refusal_of, path_room, valid_path, model_checks}
+use Rattle.path.specs.Update.{kept, passed_over}
+use Rattle.path.specs.Append.{path_outcome}
+use Rattle.path.specs.Inner.{HasPlaces, kept_of}
 use Rattle.path.proofs.Order.{Acceptable, acceptable, scannable, room-places}
 use Rattle.path.proofs.Cases.{input-refused, passes_over, kept_small, room-refused, accepted}
 use borrow.Author.Rules.{rules}
@@ -22,9 +22,9 @@ use Rattle.path.proofs.append.Statement.{statement}
 use Rattle.path.proofs.append.Tie as tie
 
 -- The input passes its checks.
-passes : (c : tie.Else1) → refusalOf (check 8 (validPath (lists c.before.before.before.before.before.before.before.before.args.sizes.now
+passes : (c : tie.Else1) → refusal_of (check 8 (valid_path (lists c.before.before.before.before.before.before.before.before.args.sizes.now
     c.before.before.before.before.before.before.before.before.args.losses.now c.before.before.before.before.before.before.before.before.args.weights.now)
-    c.before.before.before.before.before.before.before.before.args.entries) ∷ modelChecks (pathOf (lists
+    c.before.before.before.before.before.before.before.before.args.entries) ∷ model_checks (path_of (lists
     c.before.before.before.before.before.before.before.before.args.sizes.now c.before.before.before.before.before.before.before.before.args.losses.now
     c.before.before.before.before.before.before.before.before.args.weights.now) c.before.before.before.before.before.before.before.before.args.entries) (model
     c.before.before.before.before.before.before.before.before.args.size c.before.before.before.before.before.before.before.before.args.loss c.before.before.before.before.before.before.before.before.args.weight)) ≡ 0
@@ -37,7 +37,7 @@ fits : (c : tie.Else1) → Acceptable (lists c.before.before.before.before.befor
 fits c = let a = c.before.before.before.before.before.before.before.before.args in let t = lists a.sizes.now a.losses.now a.weights.now in acceptable t a.entries (model a.size a.loss a.weight) (passes c)
 
 -- It is not passed over.
-not-over : (c : tie.Else2) → passedOver (pathOf (lists c.before.before.before.before.before.before.before.before.before.before.before.args.sizes.now
+not-over : (c : tie.Else2) → passed_over (path_of (lists c.before.before.before.before.before.before.before.before.before.before.before.args.sizes.now
     c.before.before.before.before.before.before.before.before.before.before.before.args.losses.now
     c.before.before.before.before.before.before.before.before.before.before.before.args.weights.now)
     c.before.before.before.before.before.before.before.before.before.before.before.args.entries) (model
@@ -46,7 +46,7 @@ not-over : (c : tie.Else2) → passedOver (pathOf (lists c.before.before.before.
 not-over c = let a = c.before.before.before.before.before.before.before.before.before.before.before.args in sym (c.before.passed_over.ensures a.sizes.now a.weights.now a.size a.weight) ∙ c.if2.false
 
 -- So many entries stay.
-stay : (c : tie.After-try-model) → c.try-model.result.entries ≡ length (kept (pathOf (lists
+stay : (c : tie.After-try-model) → c.try-model.result.entries ≡ length (kept (path_of (lists
     c.before.before.before.before.before.before.before.before.before.before.before.before.before.before.before.args.sizes.now
     c.before.before.before.before.before.before.before.before.before.before.before.before.before.before.before.args.losses.now
     c.before.before.before.before.before.before.before.before.before.before.before.before.before.before.before.args.weights.now)
@@ -57,7 +57,7 @@ stay : (c : tie.After-try-model) → c.try-model.result.entries ≡ length (kept
 stay c = ap (λ (x : Kept). x.entries) (c.try-model.ensures c.before.before.before.before.before.before.before.before.before.before.before.before.before.before.before.args.sizes.now c.before.before.before.before.before.before.before.before.before.before.before.before.before.before.before.args.size)
 
 -- There is room for them and one more.
-enough : (c : tie.Else3) → pathRoom (lists c.before.before.before.before.before.before.before.before.before.before.before.before.before.before.before.before.before.args.sizes.now c.before.before.before.before.before.before.before.before.before.before.before.before.before.before.before.before.before.args.losses.now
+enough : (c : tie.Else3) → path_room (lists c.before.before.before.before.before.before.before.before.before.before.before.before.before.before.before.before.before.args.sizes.now c.before.before.before.before.before.before.before.before.before.before.before.before.before.before.before.before.before.args.losses.now
     c.before.before.before.before.before.before.before.before.before.before.before.before.before.before.before.before.before.args.weights.now) (c.before.before.try-model.result.entries + 1) ≡ true
 enough c = sym c.before.path-has-room.ensures ∙ not-false _ c.if3.false
 
@@ -87,11 +87,11 @@ returns c =
     let a = c.before.before.before.before.before.before.before.before.before.args in
     let t = lists a.sizes.now a.losses.now a.weights.now in
     let r = c.before.before.input-refusal in
-    ap (λ (x : PathResult). pathOutcome x t) c.refuse.ensures
+    ap (λ (x : PathResult). path_outcome x t) c.refuse.ensures
     ∙ input-refused t a.entries (model a.size a.loss a.weight) r.result r.ensures c.before.if1.true
 
 passed-over-requires : tie.Need-passed-over-requires
-passed-over-requires c κs = (fits c.before).valid.places.in-losses
+passed-over-requires c κs = (fits c.before).valid.places.in_losses
 
 none-requires : tie.Need-none-requires
 none-requires c κs = search rules
@@ -147,17 +147,17 @@ returns-3 c =
     let a = c.before.before.before.before.before.before.before.before.before.before.before.before.before.before.before.before.before.before.args in
     let t = lists a.sizes.now a.losses.now a.weights.now in
     let f = c.before.before.before.try-model in
-    ap (λ (x : PathResult). pathOutcome x t) c.refuse2.ensures
+    ap (λ (x : PathResult). path_outcome x t) c.refuse2.ensures
     ∙ room-refused t a.entries (model a.size a.loss a.weight) (passes c.before.before.before.before.before.before.before.before.before.before) (not-over c.before.before.before.before.before.before.before) f.result.entries (stay c.before.before.before) (sym c.before.before.path-has-room.ensures ∙ not-true _ c.before.if3.true)
 
 store-requires : tie.Need-store-requires
-store-requires c κs = (omega (arith, (room c.before).in-sizes), (fits c.before.before.before.before.before.before.before.before.before.before).valid.places.in-sizes)
+store-requires c κs = (omega (arith, (room c.before).in_sizes), (fits c.before.before.before.before.before.before.before.before.before.before).valid.places.in_sizes)
 
 store-requires-2 : tie.Need-store-requires-2
-store-requires-2 c κs = (omega (arith, (room c.before.before.before.before.before).in-losses), (fits c.before.before.before.before.before.before.before.before.before.before.before.before.before.before).valid.places.in-losses)
+store-requires-2 c κs = (omega (arith, (room c.before.before.before.before.before).in_losses), (fits c.before.before.before.before.before.before.before.before.before.before.before.before.before.before).valid.places.in_losses)
 
 store-requires-3 : tie.Need-store-requires-3
-store-requires-3 c κs = (omega (arith, (room c.before.before.before.before.before.before.before.before.before).in-weights), (fits c.before.before.before.before.before.before.before.before.before.before.before.before.before.before.before.before.before.before).valid.places.in-weights)
+store-requires-3 c κs = (omega (arith, (room c.before.before.before.before.before.before.before.before.before).in_weights), (fits c.before.before.before.before.before.before.before.before.before.before.before.before.before.before.before.before.before.before).valid.places.in_weights)
 
 same-length-10 : tie.Need-same-length-10
 same-length-10 c = search rules
@@ -175,7 +175,7 @@ returns-4 c =
     let f = c.before.before.before.before.before.before.before.before.before.before.before.before.before.before.before.try-model in
     let start = c.before.before.before.before.before.before.before.before.before.before.before.before.before.before.before.before.none2 in
     let none = ap (λ (x : Tally). x.count) start.ensures in
-    let all = keptOf (pathOf t a.entries) (model a.size a.loss a.weight) start.result.count in
+    let all = kept_of (path_of t a.entries) (model a.size a.loss a.weight) start.result.count in
     accepted t a.entries (model a.size a.loss a.weight) (passes
     c.before.before.before.before.before.before.before.before.before.before.before.before.before.before.before.before.before.before.before.before.before.before)
     (not-over c.before.before.before.before.before.before.before.before.before.before.before.before.before.before.before.before.before.before.before)

@@ -6,10 +6,10 @@ use Prim.Native.Nat.{ℕ, ◌+◌, ◌-◌, ◌≤◌}
 use native.Mathlib.Omega.{arith}
 use lib.ListN.{length}
 use borrow.Author.Tests.{not-true, not-false}
-use Rattle.path.specs.Model.{Model, Lists, lists, model_at, pathOf}
+use Rattle.path.specs.Model.{Model, Lists, lists, model_at, path_of}
 use Rattle.path.specs.Update.{tried}
-use Rattle.path.specs.Inner.{Held, firstPlaces}
-use Rattle.path.proofs.Held.{setModel}
+use Rattle.path.specs.Inner.{Held, first_places}
+use Rattle.path.proofs.Held.{set_model}
 use Rattle.build.proofs.Steps.{still-model}
 use Rattle.quadratic.proofs.Dropped.{dropped-none, dropped-one, kept-one}
 use Rattle.quadratic.proofs.drop_passed.Statement.{statement}
@@ -17,7 +17,7 @@ use Rattle.quadratic.proofs.drop_passed.Tie as tie
 
 abbrev invariant-loop : tie.invariant-loop
 invariant-loop sizes₀ losses₀ weights₀ count kept₀ i₀ sizes losses weights kept i =
-    (i ≤ count) × Held (tried (pathOf (firstPlaces count (lists sizes₀ losses₀ weights₀)) i)) (lists sizes₀ losses₀ weights₀) (lists sizes losses weights) kept i
+    (i ≤ count) × Held (tried (path_of (first_places count (lists sizes₀ losses₀ weights₀)) i)) (lists sizes₀ losses₀ weights₀) (lists sizes losses weights) kept i
 
 abbrev decreases-loop : tie.decreases-loop
 decreases-loop sizes₀ losses₀ weights₀ count kept₀ i₀ sizes losses weights kept i = count - i
@@ -37,10 +37,10 @@ abbrev now : tie.At-loop invariant-loop decreases-loop → Lists
 now c = lists c.loop.sizes c.loop.losses c.loop.weights
 
 abbrev models : tie.At-loop invariant-loop decreases-loop → Lists
-models c = firstPlaces (at-start c).args.count (old c)
+models c = first_places (at-start c).args.count (old c)
 
 abbrev OneMore : tie.At-loop invariant-loop decreases-loop → Lists → ℕ → Type 0
-OneMore c t kept = Held (tried (pathOf (models c) (c.loop.i + 1))) (old c) t kept (c.loop.i + 1)
+OneMore c t kept = Held (tried (path_of (models c) (c.loop.i + 1))) (old c) t kept (c.loop.i + 1)
 
 -- What is read is model i.
 abbrev new : tie.At-loop invariant-loop decreases-loop → Model
@@ -49,10 +49,10 @@ new c = model_at (now c) c.loop.i
 is-next : (c : tie.In-loop invariant-loop decreases-loop) → new c.before ≡ model_at (models c.before) c.before.loop.i
 is-next c =
     let l = c.before in
-    still-model (tried (pathOf (models l) l.loop.i)) (old l) (now l) l.loop.auto l.loop.i (at-start l).args.count l.loop.invariant.1 c.loop-test.true
+    still-model (tried (path_of (models l) l.loop.i)) (old l) (now l) l.loop.auto l.loop.i (at-start l).args.count l.loop.invariant.1 c.loop-test.true
 
 -- It moves to the front, or is passed over.
-more : (c : tie.Then1 invariant-loop decreases-loop) → (let l = (at_turn c.before).before in OneMore l (setModel (now l) l.loop.kept (new l)) (l.loop.kept + 1))
+more : (c : tie.Then1 invariant-loop decreases-loop) → (let l = (at_turn c.before).before in OneMore l (set_model (now l) l.loop.kept (new l)) (l.loop.kept + 1))
 more c =
     let turn = at_turn c.before in
     let l = turn.before in
@@ -67,59 +67,59 @@ over c =
     (sym (c.before.passed_over.ensures l.loop.sizes l.loop.weights (new l).size (new l).weight) ∙ not-false _ c.if1.false)
 
 -- The lists have the places that they had.
-in-sizes : (c : tie.At-loop invariant-loop decreases-loop) → (at-start c).args.count ≤ length c.loop.sizes
-in-sizes c = omega (arith, c.loop.invariant.1.sizes.long, (at-start c).requires.fits.in-sizes)
+in_sizes : (c : tie.At-loop invariant-loop decreases-loop) → (at-start c).args.count ≤ length c.loop.sizes
+in_sizes c = omega (arith, c.loop.invariant.1.sizes.long, (at-start c).requires.fits.in_sizes)
 
-in-losses : (c : tie.At-loop invariant-loop decreases-loop) → (at-start c).args.count ≤ length c.loop.losses
-in-losses c = omega (arith, c.loop.invariant.1.losses.long, (at-start c).requires.fits.in-losses)
+in_losses : (c : tie.At-loop invariant-loop decreases-loop) → (at-start c).args.count ≤ length c.loop.losses
+in_losses c = omega (arith, c.loop.invariant.1.losses.long, (at-start c).requires.fits.in_losses)
 
-in-weights : (c : tie.At-loop invariant-loop decreases-loop) → (at-start c).args.count ≤ length c.loop.weights
-in-weights c = omega (arith, c.loop.invariant.1.weights.long, (at-start c).requires.fits.in-weights)
+in_weights : (c : tie.At-loop invariant-loop decreases-loop) → (at-start c).args.count ≤ length c.loop.weights
+in_weights c = omega (arith, c.loop.invariant.1.weights.long, (at-start c).requires.fits.in_weights)
 
 loop-holds : tie.Need-loop-init invariant-loop decreases-loop
 loop-holds c =
     let a = c.before.before.before.args in
     let t₀ = lists a.sizes.now a.losses.now a.weights.now in
-    (omega arith, dropped-none (firstPlaces a.count t₀) t₀)
+    (omega arith, dropped-none (first_places a.count t₀) t₀)
 
 mul-size : tie.Need-overflow-mul-size invariant-loop decreases-loop
-mul-size c = omega (arith, in-sizes c.before)
+mul-size c = omega (arith, in_sizes c.before)
 
 slice-read-size : tie.Need-slice-read-size invariant-loop decreases-loop
-slice-read-size c = omega (arith, in-sizes c.before.before)
+slice-read-size c = omega (arith, in_sizes c.before.before)
 
 mul-loss : tie.Need-overflow-mul-loss invariant-loop decreases-loop
-mul-loss c = omega (arith, in-losses c.before.before)
+mul-loss c = omega (arith, in_losses c.before.before)
 
 slice-read-loss : tie.Need-slice-read-loss invariant-loop decreases-loop
-slice-read-loss c = omega (arith, in-losses c.before.before.before)
+slice-read-loss c = omega (arith, in_losses c.before.before.before)
 
 mul-weight : tie.Need-overflow-mul-weight invariant-loop decreases-loop
-mul-weight c = omega (arith, in-weights c.before.before.before)
+mul-weight c = omega (arith, in_weights c.before.before.before)
 
 slice-read-weight : tie.Need-slice-read-weight invariant-loop decreases-loop
-slice-read-weight c = omega (arith, in-weights c.before.before.before.before)
+slice-read-weight c = omega (arith, in_weights c.before.before.before.before)
 
 passed-over-requires : tie.Need-passed-over-requires invariant-loop decreases-loop
-passed-over-requires c κs = let l = c.before.before.before.before.before in omega (arith, in-losses l, l.loop.invariant.1.most)
+passed-over-requires c κs = let l = c.before.before.before.before.before in omega (arith, in_losses l, l.loop.invariant.1.most)
 
 mul-sizes : tie.Need-overflow-mul-sizes invariant-loop decreases-loop
-mul-sizes c = let l = (at_turn c.before).before in omega (arith, l.loop.inv.1.most, in-sizes l)
+mul-sizes c = let l = (at_turn c.before).before in omega (arith, l.loop.inv.1.most, in_sizes l)
 
 slice-write-sizes : tie.Need-slice-write-sizes invariant-loop decreases-loop
-slice-write-sizes c = let l = (at_turn c.before).before in omega (arith, l.loop.inv.1.most, in-sizes l)
+slice-write-sizes c = let l = (at_turn c.before).before in omega (arith, l.loop.inv.1.most, in_sizes l)
 
 mul-losses : tie.Need-overflow-mul-losses invariant-loop decreases-loop
-mul-losses c = let l = (at_turn c.before).before in omega (arith, l.loop.inv.1.most, in-losses l)
+mul-losses c = let l = (at_turn c.before).before in omega (arith, l.loop.inv.1.most, in_losses l)
 
 slice-write-losses : tie.Need-slice-write-losses invariant-loop decreases-loop
-slice-write-losses c = let l = (at_turn c.before).before in omega (arith, l.loop.inv.1.most, in-losses l)
+slice-write-losses c = let l = (at_turn c.before).before in omega (arith, l.loop.inv.1.most, in_losses l)
 
 mul-weights : tie.Need-overflow-mul-weights invariant-loop decreases-loop
-mul-weights c = let l = (at_turn c.before).before in omega (arith, l.loop.inv.1.most, in-weights l)
+mul-weights c = let l = (at_turn c.before).before in omega (arith, l.loop.inv.1.most, in_weights l)
 
 slice-write-weights : tie.Need-slice-write-weights invariant-loop decreases-loop
-slice-write-weights c = let l = (at_turn c.before).before in omega (arith, l.loop.inv.1.most, in-weights l)
+slice-write-weights c = let l = (at_turn c.before).before in omega (arith, l.loop.inv.1.most, in_weights l)
 
 add_kept : tie.Need-overflow-add-kept invariant-loop decreases-loop
 add_kept c = let l = (at_turn c.before).before in omega (arith, l.loop.inv.1.most, (at-start l).pre.few)
@@ -152,7 +152,7 @@ returns : tie.Need-returns invariant-loop decreases-loop
 returns c =
     let l = c.before in
     let e : l.loop.i ≡ (at-start l).args.count = omega arith in
-    subst (λ (i : ℕ). Held (tried (pathOf (models l) i)) (old l) (now l) l.loop.auto i) e l.loop.invariant.1
+    subst (λ (i : ℕ). Held (tried (path_of (models l) i)) (old l) (now l) l.loop.auto i) e l.loop.invariant.1
 
 pub drop-passed-spec : {M : Type 1} → statement M
 drop-passed-spec = tie.close (tie.spec invariant-loop decreases-loop loop-holds mul-size slice-read-size mul-loss slice-read-loss mul-weight slice-read-weight passed-over-requires

@@ -41,16 +41,16 @@ still-nearest c s =
     nearest-still (lists s a.losses.now a.weights.now) (model_at (lists s a.losses.now a.weights.now) a.at) lp.i lp.best (lp.invariant.2 s) (sym c.before.is-nearer.ensures ∙ c.if1.false)
 
 mul-loss : tie.Need-overflow-mul-loss invariant-loop decreases-loop
-mul-loss c = omega (arith, c.before.before.requires.1.in-losses, c.before.before.requires.1.in-weights)
+mul-loss c = omega (arith, c.before.before.requires.1.in_losses, c.before.before.requires.1.in_weights)
 
 shared-slice-read-loss : tie.Need-shared-slice-read-loss invariant-loop decreases-loop
-shared-slice-read-loss c = omega (arith, c.before.before.before.requires.1.in-losses, c.before.before.before.requires.1.in-weights)
+shared-slice-read-loss c = omega (arith, c.before.before.before.requires.1.in_losses, c.before.before.before.requires.1.in_weights)
 
 mul-weight : tie.Need-overflow-mul-weight invariant-loop decreases-loop
-mul-weight c = omega (arith, c.before.before.before.requires.1.in-losses, c.before.before.before.requires.1.in-weights)
+mul-weight c = omega (arith, c.before.before.before.requires.1.in_losses, c.before.before.before.requires.1.in_weights)
 
 shared-slice-read-weight : tie.Need-shared-slice-read-weight invariant-loop decreases-loop
-shared-slice-read-weight c = omega (arith, c.before.before.before.before.requires.1.in-losses, c.before.before.before.before.requires.1.in-weights)
+shared-slice-read-weight c = omega (arith, c.before.before.before.before.requires.1.in_losses, c.before.before.before.before.requires.1.in_weights)
 
 loop-holds : tie.Need-loop-init invariant-loop decreases-loop
 loop-holds c =
@@ -58,28 +58,28 @@ loop-holds c =
     (c.before.before.before.before.requires.0, omega arith, λ s. nearest-first (lists s a.losses.now a.weights.now) (model_at (lists s a.losses.now a.weights.now) a.at))
 
 mul-is-nearer : tie.Need-overflow-mul-is-nearer invariant-loop decreases-loop
-mul-is-nearer c = omega (arith, c.before.before.before.before.before.before.requires.1.in-losses, c.before.before.before.before.before.before.requires.1.in-weights, c.before.loop.invariant.1)
+mul-is-nearer c = omega (arith, c.before.before.before.before.before.before.requires.1.in_losses, c.before.before.before.before.before.before.requires.1.in_weights, c.before.loop.invariant.1)
 
 shared-slice-read-is-nearer : tie.Need-shared-slice-read-is-nearer invariant-loop decreases-loop
-shared-slice-read-is-nearer c = omega (arith, c.before.before.before.before.before.before.before.requires.1.in-losses, c.before.before.before.before.before.before.before.requires.1.in-weights, c.before.before.loop.invariant.1)
+shared-slice-read-is-nearer c = omega (arith, c.before.before.before.before.before.before.before.requires.1.in_losses, c.before.before.before.before.before.before.before.requires.1.in_weights, c.before.before.loop.invariant.1)
 
 mul-is-nearer-2 : tie.Need-overflow-mul-is-nearer-2 invariant-loop decreases-loop
-mul-is-nearer-2 c = omega (arith, c.before.before.before.before.before.before.before.requires.1.in-losses, c.before.before.before.before.before.before.before.requires.1.in-weights, c.before.before.loop.invariant.1)
+mul-is-nearer-2 c = omega (arith, c.before.before.before.before.before.before.before.requires.1.in_losses, c.before.before.before.before.before.before.before.requires.1.in_weights, c.before.before.loop.invariant.1)
 
 shared-slice-read-is-nearer-2 : tie.Need-shared-slice-read-is-nearer-2 invariant-loop decreases-loop
-shared-slice-read-is-nearer-2 c = omega (arith, c.before.before.before.before.before.before.before.before.requires.1.in-losses, c.before.before.before.before.before.before.before.before.requires.1.in-weights, c.before.before.before.loop.invariant.1)
+shared-slice-read-is-nearer-2 c = omega (arith, c.before.before.before.before.before.before.before.before.requires.1.in_losses, c.before.before.before.before.before.before.before.before.requires.1.in_weights, c.before.before.before.loop.invariant.1)
 
 mul-is-nearer-3 : tie.Need-overflow-mul-is-nearer-3 invariant-loop decreases-loop
-mul-is-nearer-3 c = omega (arith, c.before.before.before.before.before.before.before.before.requires.1.in-losses, c.before.before.before.before.before.before.before.before.requires.1.in-weights)
+mul-is-nearer-3 c = omega (arith, c.before.before.before.before.before.before.before.before.requires.1.in_losses, c.before.before.before.before.before.before.before.before.requires.1.in_weights)
 
 shared-slice-read-is-nearer-3 : tie.Need-shared-slice-read-is-nearer-3 invariant-loop decreases-loop
-shared-slice-read-is-nearer-3 c = omega (arith, c.before.before.before.before.before.before.before.before.before.requires.1.in-losses, c.before.before.before.before.before.before.before.before.before.requires.1.in-weights)
+shared-slice-read-is-nearer-3 c = omega (arith, c.before.before.before.before.before.before.before.before.before.requires.1.in_losses, c.before.before.before.before.before.before.before.before.before.requires.1.in_weights)
 
 mul-is-nearer-4 : tie.Need-overflow-mul-is-nearer-4 invariant-loop decreases-loop
-mul-is-nearer-4 c = omega (arith, c.before.before.before.before.before.before.before.before.before.requires.1.in-losses, c.before.before.before.before.before.before.before.before.before.requires.1.in-weights)
+mul-is-nearer-4 c = omega (arith, c.before.before.before.before.before.before.before.before.before.requires.1.in_losses, c.before.before.before.before.before.before.before.before.before.requires.1.in_weights)
 
 shared-slice-read-is-nearer-4 : tie.Need-shared-slice-read-is-nearer-4 invariant-loop decreases-loop
-shared-slice-read-is-nearer-4 c = omega (arith, c.before.before.before.before.before.before.before.before.before.before.requires.1.in-losses, c.before.before.before.before.before.before.before.before.before.before.requires.1.in-weights)
+shared-slice-read-is-nearer-4 c = omega (arith, c.before.before.before.before.before.before.before.before.before.before.requires.1.in_losses, c.before.before.before.before.before.before.before.before.before.before.requires.1.in_weights)
 
 is-nearer-requires : tie.Need-is-nearer-requires invariant-loop decreases-loop
 is-nearer-requires c κs =

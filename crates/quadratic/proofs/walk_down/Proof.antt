@@ -16,13 +16,13 @@ decreases-loop path-sizes₀ path-losses₀ path-weights₀ n at₀ first₀ pat
 
 -- All places that are read or written are within the buffers, and the next entry is one of them.
 within-sizes : (c : tie.After-find-nearest invariant-loop decreases-loop) → c.before.before.before.before.loop.first + 1 ≤ length c.before.before.before.before.loop.path-sizes
-within-sizes c = omega (arith, c.before.before.before.before.loop.invariant.inside, c.before.before.before.before.loop.invariant.sizes.long, c.before.before.before.before.before.before.before.before.requires.places.in-sizes)
+within-sizes c = omega (arith, c.before.before.before.before.loop.invariant.inside, c.before.before.before.before.loop.invariant.sizes.long, c.before.before.before.before.before.before.before.before.requires.places.in_sizes)
 
 within-losses : (c : tie.After-find-nearest invariant-loop decreases-loop) → c.before.before.before.before.loop.first + 1 ≤ length c.before.before.before.before.loop.path-losses
-within-losses c = omega (arith, c.before.before.before.before.loop.invariant.inside, c.before.before.before.before.loop.invariant.losses.long, c.before.before.before.before.before.before.before.before.requires.places.in-losses)
+within-losses c = omega (arith, c.before.before.before.before.loop.invariant.inside, c.before.before.before.before.loop.invariant.losses.long, c.before.before.before.before.before.before.before.before.requires.places.in_losses)
 
 within-weights : (c : tie.After-find-nearest invariant-loop decreases-loop) → c.before.before.before.before.loop.first + 1 ≤ length c.before.before.before.before.loop.path-weights
-within-weights c = omega (arith, c.before.before.before.before.loop.invariant.inside, c.before.before.before.before.loop.invariant.weights.long, c.before.before.before.before.before.before.before.before.requires.places.in-weights)
+within-weights c = omega (arith, c.before.before.before.before.loop.invariant.inside, c.before.before.before.before.loop.invariant.weights.long, c.before.before.before.before.before.before.before.before.requires.places.in_weights)
 
 smaller : (c : tie.After-find-nearest invariant-loop decreases-loop) → c.find-nearest.result < c.before.before.before.before.loop.at
 smaller c = (c.find-nearest.ensures c.before.before.before.before.loop.path-sizes).inside

@@ -3,10 +3,10 @@ use mathlib.Core.Path.{◌≡◌, sym, ◌∙◌}
 use Prim.Native.Nat.{◌+◌, ◌-◌}
 use native.Mathlib.Omega.{arith}
 use Rattle.path.specs.Model.{Lists, lists}
-use Rattle.path.specs.Refusal.{refusalOf}
+use Rattle.path.specs.Refusal.{refusal_of}
 use Rattle.path.specs.Inner.{HasPlaces}
 use Rattle.path.proofs.Order.{valid-parts, places-fewer}
-use Rattle.select.specs.Select.{selectChecks}
+use Rattle.select.specs.Select.{select_checks}
 use Rattle.select.proofs.Walks.{walkable, Selectable, selectable, selected-within, selecting-checks, select-refused, select-done}
 use borrow.Author.Rules.{rules}
 use Rattle.select.proofs.select.Statement.{statement}
@@ -20,7 +20,7 @@ abbrev given : tie.Start → Lists
 given s = lists s.args.sizes.now s.args.losses.now s.args.weights.now
 
 -- The refusal is that of the call's checks.
-refusal : (c : tie.After-select-refusal) → c.select-refusal.result ≡ refusalOf (selectChecks (given (at-start c)) (at-start c).args.entries (at-start c).args.p (at-start c).args.q)
+refusal : (c : tie.After-select-refusal) → c.select-refusal.result ≡ refusal_of (select_checks (given (at-start c)) (at-start c).args.entries (at-start c).args.p (at-start c).args.q)
 refusal c =
     let a = (at-start c).args in
     c.select-refusal.ensures ∙ selecting-checks (given (at-start c)) a.entries a.p a.q _ c.before.valid-path.ensures
@@ -49,22 +49,22 @@ walk-requires c κs =
     (walkable (given s) s.args.entries ok.valid ok.some, ok.penalty)
 
 mul-t11 : tie.Need-overflow-mul-t11
-mul-t11 c = let p = place c in omega (arith, p.in-sizes, p.in-losses, p.in-weights)
+mul-t11 c = let p = place c in omega (arith, p.in_sizes, p.in_losses, p.in_weights)
 
 shared-slice-read-t13 : tie.Need-shared-slice-read-t13
-shared-slice-read-t13 c = let p = place c.before in omega (arith, p.in-sizes, p.in-losses, p.in-weights)
+shared-slice-read-t13 c = let p = place c.before in omega (arith, p.in_sizes, p.in_losses, p.in_weights)
 
 mul-t14 : tie.Need-overflow-mul-t14
-mul-t14 c = let p = place c.before in omega (arith, p.in-sizes, p.in-losses, p.in-weights)
+mul-t14 c = let p = place c.before in omega (arith, p.in_sizes, p.in_losses, p.in_weights)
 
 shared-slice-read-t16 : tie.Need-shared-slice-read-t16
-shared-slice-read-t16 c = let p = place c.before.before in omega (arith, p.in-sizes, p.in-losses, p.in-weights)
+shared-slice-read-t16 c = let p = place c.before.before in omega (arith, p.in_sizes, p.in_losses, p.in_weights)
 
 mul-t17 : tie.Need-overflow-mul-t17
-mul-t17 c = let p = place c.before.before in omega (arith, p.in-sizes, p.in-losses, p.in-weights)
+mul-t17 c = let p = place c.before.before in omega (arith, p.in_sizes, p.in_losses, p.in_weights)
 
 shared-slice-read-t19 : tie.Need-shared-slice-read-t19
-shared-slice-read-t19 c = let p = place c.before.before.before in omega (arith, p.in-sizes, p.in-losses, p.in-weights)
+shared-slice-read-t19 c = let p = place c.before.before.before in omega (arith, p.in_sizes, p.in_losses, p.in_weights)
 
 returns-2 : tie.Need-returns-2
 returns-2 c =

@@ -4,10 +4,10 @@ use mathlib.Core.List.{List, [], ◌∷◌}
 use Prim.Native.Nat.{ℕ, zero, suc, min}
 use native.Mathlib.Omega.{arith}
 use lib.ListN.{take}
-use Rattle.coding.specs.Models.{modelsCoding}
-use Rattle.path.specs.Model.{Model, Lists, lists, pathOf}
+use Rattle.coding.specs.Models.{models_coding}
+use Rattle.path.specs.Model.{Model, Lists, lists, path_of}
 use Rattle.path.specs.Model.{model}
-use Rattle.path.specs.Refusal.{modelChecks, refusalOf}
+use Rattle.path.specs.Refusal.{model_checks, refusal_of}
 use Rattle.path.proofs.Order.{same-checks}
 use Rattle.byte_paths.specs.Inner.{LastIs}
 use borrow.Author.Rules.{rules}
@@ -15,8 +15,8 @@ use Rattle.byte_paths.proofs.entries.model_refusal.Statement.{statement}
 use Rattle.byte_paths.proofs.entries.model_refusal.Tie as tie
 
 -- A path's last entry stands in lists of one place.
-one_place : (t : Lists) (n k : ℕ) (m : Model) → k ≡ min n 1 → LastIs (pathOf t n) m → take 1 (pathOf (lists (m.size ∷ []) (m.loss ∷ []) (m.weight ∷ [])) k) ≡ take 1 (pathOf t n)
-unfolding pathOf
+one_place : (t : Lists) (n k : ℕ) (m : Model) → k ≡ min n 1 → LastIs (path_of t n) m → take 1 (path_of (lists (m.size ∷ []) (m.loss ∷ []) (m.weight ∷ [])) k) ≡ take 1 (path_of t n)
+unfolding path_of
 one_place t zero k m e h = rw e
 one_place t (suc n) k m e h = let one : k ≡ 1 = omega arith in rw one (ap (λ (d : Model). d ∷ []) h)
 
@@ -25,11 +25,11 @@ returns c =
     let a = c.before.before.before.before.before.before.before.before.before.args in
     let last = c.before.before.before.before.before.last_entry in
     let r = last.result in
-    let t = modelsCoding.numbers (lists a.sizes.now a.losses.now a.weights.now) in
+    let t = models_coding.numbers (lists a.sizes.now a.losses.now a.weights.now) in
     let one = lists (r.size ∷ []) (r.loss ∷ []) (r.weight ∷ []) in
     let k = c.before.smaller in
     c.model-refusal.ensures
-    ∙ same-checks (pathOf one k.result) (pathOf t a.entries) (one_place t a.entries k.result (model r.size r.loss r.weight) k.ensures last.ensures) (model a.size a.loss a.weight)
+    ∙ same-checks (path_of one k.result) (path_of t a.entries) (one_place t a.entries k.result (model r.size r.loss r.weight) k.ensures last.ensures) (model a.size a.loss a.weight)
 
 pub model-refusal-spec : {M : Type 1} → statement M
 model-refusal-spec =

@@ -4,8 +4,8 @@ use Prim.Native.Nat.{◌+◌}
 use native.Mathlib.Omega.{arith}
 use lib.ListN.{length}
 use Rattle.layout.specs.Items.{items_of}
-use Rattle.path.specs.Model.{model, lists, pathOf}
-use Rattle.path.specs.Update.{kept, testsMade}
+use Rattle.path.specs.Model.{model, lists, path_of}
+use Rattle.path.specs.Update.{kept, tests_made}
 use Rattle.path.specs.Inner.{tally_of}
 use Rattle.path.proofs.Paths.{keeps-nothing}
 use borrow.Author.Rules.{rules}
@@ -16,10 +16,10 @@ returns : tie.Need-returns
 returns c s k =
     let a = c.before.before.before.args in
     let m = model k a.loss a.weight in
-    let path = pathOf (lists s (items_of 8 a.losses.now) (items_of 2 a.weights.now)) a.entries in
+    let path = path_of (lists s (items_of 8 a.losses.now) (items_of 2 a.weights.now)) a.entries in
     let g = keeps-nothing (lists s (items_of 8 a.losses.now) (items_of 2 a.weights.now)) m c.if1.true in
     let e : 0 ≡ length (kept path m) = sym g.0 in
-    let n : a.tests ≡ tally_of (a.tests.count + testsMade path m) = ap tally_of (omega (arith, g.1)) in
+    let n : a.tests ≡ tally_of (a.tests.count + tests_made path m) = ap tally_of (omega (arith, g.1)) in
     λ i. record { entries = e i; tests = n i }
 
 scan-requires : tie.Need-scan-requires

@@ -24,12 +24,12 @@ sub-last c = omega (arith, c.before.before.requires.0.some)
 item-u64-requires : tie.Need-item-u64-requires invariant-loop decreases-loop
 item-u64-requires c κs =
     let w = c.before.before.requires.0 in
-    omega (arith, w.some, w.in-losses)
+    omega (arith, w.some, w.in_losses)
 
 item-u16-requires : tie.Need-item-u16-requires invariant-loop decreases-loop
 item-u16-requires c κs =
     let w = c.before.before.before.requires.0 in
-    omega (arith, w.some, w.in-weights)
+    omega (arith, w.some, w.in_weights)
 
 cost-of-requires : tie.Need-cost-of-requires invariant-loop decreases-loop
 cost-of-requires c κs =
@@ -52,12 +52,12 @@ add-next c =
 item-u64-requires-2 : tie.Need-item-u64-requires-2 invariant-loop decreases-loop
 item-u64-requires-2 c κs =
     let w = (at-start c.before).pre.0 in
-    omega (arith, w.some, w.in-losses)
+    omega (arith, w.some, w.in_losses)
 
 item-u16-requires-2 : tie.Need-item-u16-requires-2 invariant-loop decreases-loop
 item-u16-requires-2 c κs =
     let w = (at-start c.before.before).pre.0 in
-    omega (arith, w.some, w.in-weights)
+    omega (arith, w.some, w.in_weights)
 
 cost-of-requires-2 : tie.Need-cost-of-requires-2 invariant-loop decreases-loop
 cost-of-requires-2 c κs =

@@ -36,8 +36,8 @@ at_turn c = c.before.before.before.before
 
 -- What a turn is given: neighbours within the lists, no difference below zero, and a place in both buffers.
 record Turn (losses weights numerators denominators : List ℕ) (i : ℕ) : Type 0 where
-  in-losses : i + 1 < length losses
-  in-weights : i + 1 < length weights
+  in_losses : i + 1 < length losses
+  in_weights : i + 1 < length weights
   fall : get_or losses (i + 1) 0 ≤ get_or losses i 0
   rise : get_or weights i 0 ≤ get_or weights (i + 1) 0
   in-numerators : i < length numerators
@@ -53,12 +53,12 @@ turn c =
     let i = c.before.loop.i in
     let more = c.loop-test.true in
     record {
-      in-losses = rw (add-one i) (may.in-losses i more);
-      in-weights = rw (add-one i) (may.in-weights i more);
+      in_losses = rw (add-one i) (may.in_losses i more);
+      in_weights = rw (add-one i) (may.in_weights i more);
       fall = rw (add-one i) (may.fall i more);
       rise = rw (add-one i) (may.rise i more);
-      in-numerators = omega (arith, may.numerators-fit);
-      in-denominators = omega (arith, may.denominators-fit);
+      in-numerators = omega (arith, may.numerators_fit);
+      in-denominators = omega (arith, may.denominators_fit);
     }
 
 loop-holds : tie.Need-loop-init invariant-loop decreases-loop
@@ -66,27 +66,27 @@ loop-holds c =
     let s = at-start c in
     let a = s.args in (
       omega arith,
-      spelt-none 8 numerator a.losses.now a.weights.now a.numerators.now s.pre.numerators-whole (bytes-held a.numerators.now c.before.slice-known.given),
-      spelt-none 2 denominator a.losses.now a.weights.now a.denominators.now s.pre.denominators-whole (bytes-held a.denominators.now c.slice-known2.given),
+      spelt-none 8 numerator a.losses.now a.weights.now a.numerators.now s.pre.numerators_whole (bytes-held a.numerators.now c.before.slice-known.given),
+      spelt-none 2 denominator a.losses.now a.weights.now a.denominators.now s.pre.denominators_whole (bytes-held a.denominators.now c.slice-known2.given),
     )
 
 add-next : tie.Need-overflow-add-next invariant-loop decreases-loop
 add-next c = omega arith
 
 item-u64-requires : tie.Need-item-u64-requires invariant-loop decreases-loop
-item-u64-requires c κs = omega (arith, (turn c).in-losses)
+item-u64-requires c κs = omega (arith, (turn c).in_losses)
 
 item-u64-requires-2 : tie.Need-item-u64-requires-2 invariant-loop decreases-loop
-item-u64-requires-2 c κs = (turn c.before).in-losses
+item-u64-requires-2 c κs = (turn c.before).in_losses
 
 sub-fall : tie.Need-overflow-sub-fall invariant-loop decreases-loop
 sub-fall c = omega (arith, (turn c.before.before).fall, c.before.item-u64.ensures, c.item-u642.ensures)
 
 item-u16-requires : tie.Need-item-u16-requires invariant-loop decreases-loop
-item-u16-requires c κs = (turn c.before.before).in-weights
+item-u16-requires c κs = (turn c.before.before).in_weights
 
 item-u16-requires-2 : tie.Need-item-u16-requires-2 invariant-loop decreases-loop
-item-u16-requires-2 c κs = omega (arith, (turn c.before.before.before).in-weights)
+item-u16-requires-2 c κs = omega (arith, (turn c.before.before.before).in_weights)
 
 sub-rise : tie.Need-overflow-sub-rise invariant-loop decreases-loop
 sub-rise c = omega (arith, (turn (at_turn c)).rise, c.before.item-u16.ensures, c.item-u162.ensures)
@@ -98,8 +98,8 @@ inside c =
     let s = at-start k in
     let a = s.args in
     let i = c.before.loop.i in (
-      spelt-inside 8 numerator a.losses.now a.weights.now a.numerators.now s.pre.numerators-whole (bytes-held a.numerators.now k.before.slice-known.given) i (turn c).in-numerators,
-      spelt-inside 2 denominator a.losses.now a.weights.now a.denominators.now s.pre.denominators-whole (bytes-held a.denominators.now k.slice-known2.given) i (turn c).in-denominators,
+      spelt-inside 8 numerator a.losses.now a.weights.now a.numerators.now s.pre.numerators_whole (bytes-held a.numerators.now k.before.slice-known.given) i (turn c).in-numerators,
+      spelt-inside 2 denominator a.losses.now a.weights.now a.denominators.now s.pre.denominators_whole (bytes-held a.denominators.now k.slice-known2.given) i (turn c).in-denominators,
     )
 
 mul-put : tie.Need-overflow-mul-put invariant-loop decreases-loop
@@ -132,9 +132,9 @@ loop-again c =
     let w₀ = g.item-u162.ensures in (
       omega arith,
       subst (λ (b : List ℕ). WrittenIn 8 numerator a.losses.now a.weights.now a.numerators.now b (v.i + 1)) (sym p.put.ensures)
-          (spelt-more 8 numerator a.losses.now a.weights.now a.numerators.now s.pre.numerators-whole (bytes-held a.numerators.now k.before.slice-known.given) v.numerators v.i v.inv.1 (turn t).in-numerators _ (λ z i. l₀ i - l₁ i)),
+          (spelt-more 8 numerator a.losses.now a.weights.now a.numerators.now s.pre.numerators_whole (bytes-held a.numerators.now k.before.slice-known.given) v.numerators v.i v.inv.1 (turn t).in-numerators _ (λ z i. l₀ i - l₁ i)),
       subst (λ (b : List ℕ). WrittenIn 2 denominator a.losses.now a.weights.now a.denominators.now b (v.i + 1)) (sym c.before.before.put2.ensures)
-          (spelt-more 2 denominator a.losses.now a.weights.now a.denominators.now s.pre.denominators-whole (bytes-held a.denominators.now k.slice-known2.given) v.denominators v.i v.inv.2 (turn t).in-denominators _ (λ z i. w₁ i - w₀ i)),
+          (spelt-more 2 denominator a.losses.now a.weights.now a.denominators.now s.pre.denominators_whole (bytes-held a.denominators.now k.slice-known2.given) v.denominators v.i v.inv.2 (turn t).in-denominators _ (λ z i. w₁ i - w₀ i)),
     )
 
 same_length : tie.Need-same-length invariant-loop decreases-loop

@@ -5,12 +5,12 @@ use mathlib.Core.List.{List, ◌∷◌, ◌++◌, map, append-nil}
 use Prim.Native.Nat.{ℕ, ◌-◌, ◌≤◌}
 use native.Mathlib.Omega.{arith}
 use lib.ListN.{length, take, drop}
-use Rattle.least.specs.Segmentation.{maxSegments}
+use Rattle.least.specs.Segmentation.{max_segments}
 use Rattle.weights.specs.Inner.{folded}
 use Rattle.text.specs.Text.{value_of}
 use Rattle.text.specs.Inner.{rest}
 use Rattle.text.proofs.Readings.{figure-known, figure-none}
-use Rattle.report.specs.Forms.{allFigures}
+use Rattle.report.specs.Forms.{all_figures}
 use Rattle.report.specs.Inner.{KeptFront}
 use Rattle.report.proofs.Layouts.{weights-bad, weights-good, figures-done, figures-on, figures-off, weights-on}
 use Rattle.report.proofs.Keeping.{kept-none, kept_on, kept-front}
@@ -21,9 +21,9 @@ use Rattle.report.proofs.forms.read_weights.Tie as tie
 abbrev invariant-loop : tie.invariant-loop
 invariant-loop text from weights₀ at₀ count₀ weights at count =
     (at ≤ length text) × KeptFront weights count × (length weights ≡ length weights₀)
-    × (allFigures (rest 32 (drop from text)) ≡ allFigures (rest 32 (drop at text)))
-    × (folded maxSegments (map value_of (rest 32 (drop from text)))
-    ≡ folded maxSegments (take count weights ++ map value_of (rest 32 (drop at text))))
+    × (all_figures (rest 32 (drop from text)) ≡ all_figures (rest 32 (drop at text)))
+    × (folded max_segments (map value_of (rest 32 (drop from text)))
+    ≡ folded max_segments (take count weights ++ map value_of (rest 32 (drop at text))))
 
 abbrev decreases-loop : tie.decreases-loop
 decreases-loop text from weights₀ at₀ count₀ weights at count = length text - at
@@ -84,7 +84,7 @@ loop-again c =
       kept-front kept.ensures,
       omega (arith, kept.auto, lp.invariant.2),
       lp.invariant.3 ∙ all,
-      (lp.invariant.4 ∙ ap (λ (m : List ℕ). folded maxSegments (take lp.count lp.weights ++ m)) values ∙ kept_on kept.ensures later),
+      (lp.invariant.4 ∙ ap (λ (m : List ℕ). folded max_segments (take lp.count lp.weights ++ m)) values ∙ kept_on kept.ensures later),
     )
 
 enum_told : tie.Need-enum-told invariant-loop decreases-loop
@@ -119,11 +119,11 @@ returns-2 c =
     let lp = at-loop.loop in
     let d = figures-done text lp.at (omega arith) in
     let kept = take lp.count lp.weights in
-    let values = lp.invariant.4 ∙ ap (λ (m : List ℕ). folded maxSegments (kept ++ m)) d.1 ∙ ap (folded maxSegments) (append-nil kept) in
+    let values = lp.invariant.4 ∙ ap (λ (m : List ℕ). folded max_segments (kept ++ m)) d.1 ∙ ap (folded max_segments) (append-nil kept) in
     record {
       all = map value_of (rest 32 (drop start.args.from text));
       form = weights-good _ _ (lp.invariant.3 ∙ d.0) refl;
-      are = sym (values ∙ lp.invariant.1.folded-is);
+      are = sym (values ∙ lp.invariant.1.folded_is);
       in_buffer = omega (arith, lp.invariant.1.few, lp.invariant.2, start.requires.1);
     }
 

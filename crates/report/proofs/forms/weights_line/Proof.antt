@@ -6,7 +6,7 @@ use Prim.Native.Nat.{ℕ, ◌-◌, ◌≤◌}
 use native.Mathlib.Omega.{arith}
 use lib.ListN.{length, drop, length-take, length-drop}
 use borrow.Author.Tests.{not-true, not-false}
-use Rattle.report.specs.Forms.{inBrackets}
+use Rattle.report.specs.Forms.{in_brackets}
 use Rattle.report.proofs.Layouts.{form-inside, form-outside, brackets, weights-off}
 use borrow.Author.Rules.{rules}
 use Rattle.report.proofs.forms.weights_line.Statement.{statement}
@@ -17,7 +17,7 @@ module _ (c : tie.Else1) where
   abbrev line : List ℕ
   line = c.before.before.before.before.args.line.now
 
-  is-in : inBrackets line ≡ true
+  is-in : in_brackets line ≡ true
   is-in = sym c.before.in-brackets.ensures ∙ not-false _ c.if1.false
 
   long : 2 ≤ length line

@@ -5,7 +5,7 @@ use Prim.Native.Nat.{◌-◌}
 use native.Mathlib.Omega.{arith}
 use lib.ListN.{length}
 use mir.Facts.{to_z-of_z}
-use Rattle.text.specs.Text.{digits, wholeDigits}
+use Rattle.text.specs.Text.{digits, whole_digits}
 use Rattle.text.proofs.Prints.{put_then, put_as}
 use Rattle.text.proofs.Texts.{level-below, level-above}
 use borrow.Author.Rules.{rules}
@@ -14,14 +14,14 @@ use Rattle.text.proofs.print.put_level.Tie as tie
 
 -- What is written in the two cases is the level in decimal.
 below : (c : tie.Then1)
-    → (45 ∷ []) ++ digits (32768 - c.before.raise.result) ≡ wholeDigits c.before.before.before.args.level
+    → (45 ∷ []) ++ digits (32768 - c.before.raise.result) ≡ whole_digits c.before.before.before.args.level
 below c =
     let start = c.before.before.before in
     let e = rw (to_z-of_z start.ranges.level) at c.before.raise.ensures.0 in
     rw e (level-below start.args.level start.ranges.level.sfits (omega (arith, c.if1.true)))
 
 above : (c : tie.Else1)
-    → digits (c.before.raise.result - 32768) ≡ wholeDigits c.before.before.before.args.level
+    → digits (c.before.raise.result - 32768) ≡ whole_digits c.before.before.before.args.level
 above c =
     let start = c.before.before.before in
     let e = rw (to_z-of_z start.ranges.level) at c.before.raise.ensures.0 in
