@@ -7,10 +7,9 @@ use Prim.Native.Nat.{ℕ, zero, suc, ◌+◌, ◌-◌, ◌≤◌, ◌<◌}
 use native.Mathlib.Omega.{arith}
 use lib.Dec.{eqb}
 use lib.ListN.{length, get_or}
-use Rattle.path.specs.Model.{Model, model, Lists, lists, model_at, path_of}
+use Rattle.path.specs.Model.{model, lists, model_at, path_of}
 use Rattle.path.specs.Update.{below, breakpoint, holds, kept, tests_made, passed_over}
 use Rattle.path.specs.Inner.{Comparable, Scannable, PassesOver, TestsLast, tally_of, kept_of}
-use Rattle.path.specs.declared.Kept.{Kept}
 use Rattle.path.specs.declared.tally.Tally.{Tally}
 use Rattle.path.proofs.Paths.{keeps-all, drops-last, first_holds, first-not-dropped, later-holds}
 

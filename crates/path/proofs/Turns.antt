@@ -41,7 +41,8 @@ ordered-none t e = rw e
 
 pub ordered-one : (t : Lists) {at : ℕ} → at ≡ 0 → ordered (path_of t (suc at)) ≡ in_range (model_at t 0)
 unfolding path_of ordered
-ordered-one t e = rw e
+ordered-one t {at = zero} e = refl
+ordered-one t {at = suc at} e = absurd (omega arith)
 
 pub last-fails : (t : Lists) (n : ℕ) → in_range (model_at t n) ≡ false → ordered (path_of t (suc n)) ≡ false
 unfolding path_of ordered
