@@ -163,6 +163,7 @@ Below limit xs = (i : ℕ) → i < length xs → get_or xs i 0 < limit
 
 item-of-bytes : (k : ℕ) (xs : List ℕ) (i : ℕ) → Below (256 ^ k) xs → i < length xs → item k (bytes_of k xs) (k * i) ≡ get_or xs i 0
 unfolding bytes_of
+item-of-bytes k [] i b h = elim h [ ]
 item-of-bytes k (x ∷ xs) zero b h = rw mul-zero (item-spelled k x (bytes_of k xs) (b 0 h))
 item-of-bytes k (x ∷ xs) (suc i) b h =
     let e : k * suc i ≡ length (item_bytes k x) + k * i = omega (arith, mul-suc k i, length-item_bytes k x) in

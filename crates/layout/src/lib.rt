@@ -1,5 +1,7 @@
 // Numbers as items of a byte string, low byte first: one item got or put, and the front of a string read to a list of numbers or
 // written from one. The table of starts in the scratch and the lists of the calls in C are made of such items.
+#![tactic(auto)]
+
 ghost use Rattle.std.specs.Prelude.{◌≡◌, map, ◌++◌, ◌+◌, ◌*◌, ◌≤◌, ◌<◌, length, get_or, drop};
 ghost use Rattle.layout.specs.Item.{item, set_item};
 ghost use Rattle.layout.specs.Items.{items_to, items_of, bytes_of, signed_of, unsigned_of};

@@ -1,0 +1,25 @@
+-- `layout::get_u16` meets its contract: each of the two bytes is below 256, so that the sum fits, and it is the item's definition
+-- at the width 2.
+use Prim.Native.Nat.{◌+◌}
+use native.Mathlib.Omega.{arith}
+use native.Mathlib.Numerals.{add-one}
+use Rattle.layout.specs.Item.{item}
+use Rattle.layout.proofs.get_u16.Goals as goal
+
+pub overflow_cast-result : goal.overflow_cast-result
+overflow_cast-result c = omega (arith, c.shared_slice_known-1.given c.args.at)
+
+pub overflow_cast-result-2 : goal.overflow_cast-result-2
+overflow_cast-result-2 c = omega (arith, c.shared_slice_known-2-1.given (c.args.at + 1))
+
+pub overflow_mul-result : goal.overflow_mul-result
+overflow_mul-result c = omega (arith, c.shared_slice_known-2-1.given (c.args.at + 1))
+
+pub overflow_add-result-2 : goal.overflow_add-result-2
+overflow_add-result-2 c =
+    let at = c.args.at in
+    omega (arith, c.shared_slice_known-2-1.given at, c.shared_slice_known-2-1.given (at + 1))
+
+pub returns : goal.returns
+unfolding item
+returns c = rw add-one (omega arith)

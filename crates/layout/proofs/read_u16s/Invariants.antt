@@ -1,0 +1,11 @@
+-- `layout::read_u16s` meets its contract: after i turns the first i items are read.
+use Prim.Native.Nat.{◌*◌, ◌-◌}
+use lib.ListN.{length}
+use Rattle.layout.proofs.ItemLists.{ReadTo}
+use Rattle.layout.proofs.read_u16s.Given as goal
+
+abbrev pub invariant-loop-i : goal.invariant-loop-i
+invariant-loop-i l = ReadTo 2 l.bytes l.initial.items l.items l.i (2 * l.i)
+
+abbrev pub decreases-loop-i : goal.decreases-loop-i
+decreases-loop-i l = length l.initial.items - l.i
