@@ -295,7 +295,9 @@ module _ (bytes : List ℕ) (items₀ : List ℤ) where
         record {
           within = h;
           long = length-set items i v ∙ r.long;
-          is = ap (λ (x : List ℤ). set x i v) (r.is ∙ ap (λ (x : List ℤ). m ++ x) (drop-cons items₀ i (pos 0) h)) ∙ set_at m (get_or items₀ i (pos 0)) (drop (suc i) items₀) v i length-signed ∙ sym (append_snoc m v (drop (suc i) items₀)) ∙ ap (λ (x : List ℤ). x ++ drop (suc i) items₀) (ap (λ (z : ℤ). m ++ (z ∷ [])) e ∙ sym (map_snoc signed_of (items_to 2 bytes i) (item 2 bytes (2 * i))));
+          is = ap (λ (x : List ℤ). set x i v) (r.is ∙ ap (λ (x : List ℤ). m ++ x) (drop-cons items₀ i (pos 0) h))
+              ∙ set_at m (get_or items₀ i (pos 0)) (drop (suc i) items₀) v i length-signed ∙ sym (append_snoc m v (drop (suc i) items₀))
+              ∙ ap (λ (x : List ℤ). x ++ drop (suc i) items₀) (ap (λ (z : ℤ). m ++ (z ∷ [])) e ∙ sym (map_snoc signed_of (items_to 2 bytes i) (item 2 bytes (2 * i))));
         }
 
     pub signed-end : length items₀ ≤ i → items ≡ map signed_of (items_to 2 bytes (length items₀))
