@@ -42,6 +42,10 @@ def decls(bs):
         if kind == "note":
             notes.append(t)
             continue
+        if re.match(r"^(?:pub +)?(record|data|module|ruleset)\b", t):
+            out.append({"notes": notes, "mods": "", "name": t.split()[1], "type": "", "body": [], "raw": t})
+            notes = []
+            continue
         m = SIG.match(t)
         if m and not re.match(r"^(unfolding)\b", t) and "=" not in t.split(":")[0]:
             out.append({"notes": notes, "mods": m.group(1), "name": m.group(2), "type": m.group(3), "body": []})
@@ -130,7 +134,7 @@ class Turn:
                     out.append(f.replace("-", "_"))
                     kind = None
                 elif k == "step":
-                    g = {"inv": "invariant", "kept": "auto", "last": "new", "pre": "requires"}.get(f, f)
+                    g = {"inv": "invariant", "kept": "auto", "last": "new", "pre": "requires", "taken": "true"}.get(f, f)
                     for a, b in self.fields.get(kind[1]) or []:
                         if g == a:
                             g = b
@@ -212,10 +216,8 @@ def inline(t, places):
             rhs = rhs[: mm.start()] + ("c" if kind == "place" else name) + rhs[end:]
             if rhs[mm.start() - 1 : mm.start()] == "(" and rhs[mm.start() + len(name) :][:1] == ")":
                 rhs = rhs[: mm.start() - 1] + name + rhs[mm.start() + len(name) + 1 :]
-            i = mm.start()
+            i = mm.start() + len(name)
             used = True
-            if kind == "place":
-                i = mm.start()
         for k in range(len(lets)):
             n2, ty2, b2 = lets[k]
             lets[k] = (n2, strip_calls(ty2, name, kind), strip_calls(b2, name, kind))
@@ -242,7 +244,7 @@ def strip_calls(t, name, kind):
         t = t[: mm.start()] + w + t[end:]
         if t[mm.start() - 1 : mm.start()] == "(" and t[mm.start() + len(w) :][:1] == ")":
             t = t[: mm.start() - 1] + w + t[mm.start() + len(w) + 1 :]
-        i = mm.start()
+        i = mm.start() + (0 if kind == "place" else len(w))
 
 
 def main(names_file, crate, *only):
@@ -280,6 +282,9 @@ def main(names_file, crate, *only):
         steps = [x["name"] for x in ds if re.match(r"^tie\.[^→]*→\s*tie\.[^→]*$", x["type"].strip(), re.S)]
         for dcl in ds:
             if dcl["name"] in steps:
+                continue
+            if "raw" in dcl:
+                ans.append("\n".join(dcl["notes"] + [dcl["raw"]]))
                 continue
             for s in steps:
                 again = True
@@ -347,7 +352,7 @@ def main(names_file, crate, *only):
             if re.match(r"^lts\.[^→]*→ lts\.[^→]*$", ty2.strip(), re.S):
                 places[dcl["name"]] = ("place", "", "", "")
                 continue
-            m3 = re.match(r"^(?:lts\.\S+(?: invariant-\S+| decreases-\S+)*|\((?:\w+) : lts\.[^)]*\)) → (.*)$", ty2.strip(), re.S)
+            m3 = re.match(r"^(?:lts\.\S+(?: invariant-\S+| decreases-\S+)*|\((?:\w+) : lts\.[^)]*\))\s*→ (.*)$", ty2.strip(), re.S)
             m4 = re.match(r"^" + re.escape(dcl["name"]) + r" (\w+)((?: [^\s=]+)*) =(.*)$", body, re.S)
             if m3 and m4:
                 v = m4.group(1)
