@@ -1,7 +1,7 @@
 -- `segment::prefix_squares` meets its contract. The loop's invariant: sum is the sum of the first i squares, and the cells up to i have the
 -- sums over as many samples as their number. The measure is what is left of the samples.
 use mathlib.Core.Path.{◌≡◌, refl, ◌∙◌, ap}
-use Prim.Native.Nat.{ℕ, ◌+◌, ◌-◌, ◌≤◌, ◌<◌}
+use Prim.Native.Nat.{ℕ, ◌+◌, ◌≤◌, ◌<◌}
 use native.Mathlib.Omega.{arith}
 use mathlib.Core.List.{List}
 use lib.IntN.{ℤ, pos}
@@ -10,6 +10,7 @@ use mir.Syntax.{w16}
 use mir.Facts.{to_z-of_z}
 use Rattle.segment.specs.Inner.{max_square, raised_square, SumsFrom}
 use Rattle.segment.proofs.Sums.{along-start, along-next, along-front, cells-start, cells-more}
+use Rattle.segment.proofs.prefix_squares.Invariants.{Filled}
 use Rattle.segment.proofs.prefix_squares.Goals as goal
 
 -- It holds before the loop.

@@ -1,7 +1,7 @@
 -- `segment::prefix_sums` meets its contract. The loop's invariant: sum is the sum over the first i samples, which were read, and the
 -- cells up to i have the sums over as many samples as their number. The measure is what is left of the samples.
 use mathlib.Core.Path.{◌≡◌, refl, ◌∙◌, ap}
-use Prim.Native.Nat.{ℕ, ◌+◌, ◌-◌, ◌≤◌, ◌<◌}
+use Prim.Native.Nat.{ℕ, ◌+◌, ◌≤◌, ◌<◌}
 use native.Mathlib.Omega.{arith}
 use borrow.Author.Count.{below_more}
 use mathlib.Core.List.{List}
@@ -13,6 +13,7 @@ use Rattle.segment.specs.Segment.{Sample16}
 use Rattle.segment.specs.Inner.{max_raised, raised, SumsFrom}
 use Rattle.segment.proofs.Bounds.{fits-sample}
 use Rattle.segment.proofs.Sums.{along-start, along-next, along-front, cells-start, cells-more}
+use Rattle.segment.proofs.prefix_sums.Invariants.{Filled}
 use Rattle.segment.proofs.prefix_sums.Goals as goal
 
 -- It holds before the loop.

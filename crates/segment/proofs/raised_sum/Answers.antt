@@ -3,7 +3,7 @@
 use mathlib.Core.Path.{◌≡◌, sym, ◌∙◌, ap, subst}
 use mathlib.Core.Logic.{⊎_elim}
 use mathlib.Core.List.{List}
-use Prim.Native.Nat.{ℕ, ◌+◌, ◌-◌, ◌≤◌, ◌<◌}
+use Prim.Native.Nat.{ℕ, ◌+◌, ◌≤◌, ◌<◌}
 use native.Mathlib.Nat.{eq-or-lt_of_le}
 use native.Mathlib.Omega.{arith}
 use lib.IntN.{ℤ, pos}
@@ -15,6 +15,7 @@ use Rattle.segment.specs.Segment.{Sample16}
 use Rattle.segment.specs.Inner.{max_raised, raised, raised_sum, SumOf}
 use Rattle.segment.proofs.Bounds.{fits-sample, slice_fits}
 use Rattle.segment.proofs.Sums.{along-start, along-next, along-slice}
+use Rattle.segment.proofs.raised_sum.Invariants.{Added}
 use Rattle.segment.proofs.raised_sum.Goals as goal
 
 -- A turn reads and adds one sample.

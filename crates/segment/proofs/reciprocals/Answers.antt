@@ -1,7 +1,7 @@
 -- `segment::reciprocals` meets its contract. The invariant: the cells 1 to n have their reciprocals. The measure is what is left.
 use mathlib.Core.Path.{refl}
 use mathlib.Core.List.{List}
-use Prim.Native.Nat.{ℕ, ◌+◌, ◌-◌, ◌<◌}
+use Prim.Native.Nat.{ℕ, ◌+◌, ◌<◌}
 use native.Mathlib.Omega.{arith}
 use lib.ListN.{length, set, length-set}
 use Rattle.segment.specs.Segment.{max_samples}

@@ -15,6 +15,7 @@ use Rattle.segment.specs.Segment.{Sample16, segment_loss}
 use Rattle.segment.specs.Inner.{max_raised, max_square, raised, raised_square, sum_of, TailsFrom, SumsIn, TailLosses}
 use Rattle.segment.proofs.Bounds.{fits-sample, slice_fits}
 use Rattle.segment.proofs.Sums.{sumOf-slice}
+use Rattle.segment.proofs.tail_losses.Invariants.{Sums, Tails}
 use Rattle.segment.proofs.tail_losses.Goals as goal
 
 -- A sum over a segment with one sample more in front.
