@@ -81,6 +81,7 @@ class Turn:
             if callee:
                 self.callee[sn] = callee
         self.loops = {norm(a): b for (a, b), vs in d["loops"]}
+        self.vars = {b: vs for (a, b), vs in d["loops"]}
         self.needs = {}
         for a, b in d["needs"]:
             self.needs.setdefault(norm(a), b)
@@ -134,7 +135,14 @@ class Turn:
                     out.append(f.replace("-", "_"))
                     kind = None
                 elif k == "step":
-                    g = {"inv": "invariant", "kept": "auto", "last": "new", "pre": "requires", "taken": "true"}.get(f, f)
+                    g = {"inv": "invariant", "pre": "requires", "taken": "true"}.get(f, f)
+                    vs = self.vars.get(kind[1])
+                    if vs:
+                        back = {"auto": "kept", "new": "last"}.get(g)
+                        h = g.replace("-", "_")
+                        g = h if h in vs else back if back in vs else g
+                    if kind[1] in self.callee:
+                        g = {"kept": "auto", "last": "new"}.get(g, g)
                     for a, b in self.fields.get(kind[1]) or []:
                         if g == a:
                             g = b
@@ -317,7 +325,7 @@ def main(names_file, crate, *only):
                         continue
                     q = p.rstrip("₀")
                     q = re.sub(r"₀", "", p)
-                    to = ("l.initial." if "₀" in p else "l.") + q
+                    to = ("l.initial." if "₀" in p else "l.") + q.replace("-", "_")
                     rhs = re.sub(r"(?<![^\s(){};,@\[\]\\])" + re.escape(p) + r"(?![^\s(){}.;,@\[\]\\])", to, rhs)
                 n = f"{mm.group(1)}-{new}"
                 inv.append("\n".join(dcl["notes"] + [f"abbrev pub {n} : goal.{n}", f"{n} l ={rhs}"]))
@@ -352,7 +360,7 @@ def main(names_file, crate, *only):
             if re.match(r"^lts\.[^→]*→ lts\.[^→]*$", ty2.strip(), re.S):
                 places[dcl["name"]] = ("place", "", "", "")
                 continue
-            m3 = re.match(r"^(?:lts\.\S+(?: invariant-\S+| decreases-\S+)*|\((?:\w+) : lts\.[^)]*\))\s*→ (.*)$", ty2.strip(), re.S)
+            m3 = re.match(r"^(?:lts\.\S+(?: invariant-\S+| decreases-\S+)*|\((?:\w+) : lts\.[^)]*\))(?:\s*→|(?= \()) (.*)$", ty2.strip(), re.S)
             m4 = re.match(r"^" + re.escape(dcl["name"]) + r" (\w+)((?: [^\s=]+)*) =(.*)$", body, re.S)
             if m3 and m4:
                 v = m4.group(1)
