@@ -2,6 +2,8 @@
 // bytes, and the segmentation that the table spells. A row has for each number of samples the gain of so many segments, which is what
 // their least loss falls short of the sum of squares. Two rows are kept, of one number of segments and of the one before. Segments have
 // at least `min_segment_len` samples each.
+#![tactic(auto)]
+
 ghost use Rattle.std.specs.Prelude.{◌≡◌, ◌++◌, ℕ, min, ◌+◌, ◌-◌, ◌/◌, ◌<◌, length, drop};
 ghost use Rattle.segment.specs.Inner.{GainReady};
 ghost use Rattle.least.specs.Segmentation.{starts_of, levels_of, chosen_of};
