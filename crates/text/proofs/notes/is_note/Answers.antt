@@ -1,0 +1,37 @@
+-- `text::notes::is_note` skips the form that the line begins with: the line is a note if that ends where the line does.
+use mathlib.Core.Path.{sym, ◌∙◌}
+use native.Mathlib.Omega.{arith}
+use Rattle.text.specs.Notes.{is_note}
+use Rattle.text.proofs.Nests.{all_closed, past-at, resumed-at, resumed-off}
+use Rattle.text.proofs.Readings.{begins-long, note-off}
+use Rattle.text.proofs.notes.is_note.Goals as goal
+
+pub returns-then-not-begins_note : goal.returns-then-not-begins_note
+returns-then-not-begins_note c = note-off _ (sym c.begins_note.ensures ∙ c.if-not-begins_note.true)
+
+pub skip_form-requires : goal.skip_form-requires
+skip_form-requires c =
+    let start = c in
+    let begun = sym c.begins_note.ensures ∙ c.if-not-begins_note.false in
+    (omega arith, omega (arith, begins-long start.args.line.now begun))
+
+pub returns-in-At : goal.returns-in-At
+unfolding is_note
+returns-in-At c =
+    let skipped = c in
+    let tested = skipped in
+    let line = tested.args.line.now in
+    let n = c.next-1.given.0.0 in
+    let r = skipped.skip_form in
+    let p = past-at 0 line r.result n c.next-1.given.1 r.ensures.1 in
+    let begun = sym tested.begins_note.ensures ∙ tested.if-not-begins_note.false in
+    rw begun (sym (r.ensures.0 ∙ resumed-at 0 line r.result n c.next-1.given.1 ∙ all_closed line n p.1))
+
+pub returns-in-Off : goal.returns-in-Off
+unfolding is_note
+returns-in-Off c =
+    let tested = c in
+    let line = tested.args.line.now in
+    let r = c.skip_form in
+    let begun = sym tested.begins_note.ensures ∙ tested.if-not-begins_note.false in
+    rw begun (sym (r.ensures.0 ∙ resumed-off 0 line r.result c.enum_told-1.given.1))
