@@ -2,7 +2,7 @@
 use mathlib.Core.Path.{sym, ◌∙◌}
 use native.Mathlib.Omega.{arith}
 use Rattle.text.specs.Notes.{is_note}
-use Rattle.text.proofs.Nests.{all_closed, past-at, resumed-at, resumed-off}
+use Rattle.text.proofs.Nests.{all_closed}
 use Rattle.text.proofs.Readings.{begins-long, note-off}
 use Rattle.text.proofs.notes.is_note.Goals as goal
 
@@ -18,20 +18,12 @@ skip_form-requires c =
 pub returns-in-At : goal.returns-in-At
 unfolding is_note
 returns-in-At c =
-    let skipped = c in
-    let tested = skipped in
-    let line = tested.args.line.now in
-    let n = c.next-1.given.0.0 in
-    let r = skipped.skip_form in
-    let p = past-at 0 line r.result n c.next-1.given.1 r.ensures.1 in
-    let begun = sym tested.begins_note.ensures ∙ tested.if-not-begins_note.false in
-    rw begun (sym (r.ensures.0 ∙ resumed-at 0 line r.result n c.next-1.given.1 ∙ all_closed line n p.1))
+    let line = c.args.line.now in
+    let begun = sym c.begins_note.ensures ∙ c.if-not-begins_note.false in
+    rw begun (sym (c.in-At.ensures.means ∙ all_closed line c.in-At.next c.in-At.ensures.past.1))
 
 pub returns-in-Off : goal.returns-in-Off
 unfolding is_note
 returns-in-Off c =
-    let tested = c in
-    let line = tested.args.line.now in
-    let r = c.skip_form in
-    let begun = sym tested.begins_note.ensures ∙ tested.if-not-begins_note.false in
-    rw begun (sym (r.ensures.0 ∙ resumed-off 0 line r.result c.enum_told-1.given.1))
+    let begun = sym c.begins_note.ensures ∙ c.if-not-begins_note.false in
+    rw begun (sym c.in-Off.ensures.means)

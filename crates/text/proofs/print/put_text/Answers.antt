@@ -1,6 +1,5 @@
 -- `text::print::put_text` stores byte after byte. The loop's invariant: the first i bytes of the text lie over the output.
 use mathlib.Core.Path.{◌≡◌, refl, ◌∙◌}
-use Prim.Native.Nat.{◌-◌}
 use native.Mathlib.Omega.{arith}
 use lib.ListN.{take, length-set}
 use lib.Seq.{take_all}

@@ -1,7 +1,6 @@
 -- `text::words::find` goes on from byte to byte. The loop's invariant: the search from i on finds what the search from the start on
 -- does.
 use mathlib.Core.Path.{refl}
-use Prim.Native.Nat.{◌-◌}
 use native.Mathlib.Omega.{arith}
 use Rattle.text.proofs.Searches.{span-here, span-on, span-end}
 use Rattle.text.proofs.words.find.Goals as goal

@@ -1,10 +1,11 @@
 -- `text::words::read_sample` looks for a minus and reads the figure after it, or the word as a figure.
-use mathlib.Core.Path.{◌≡◌, ◌∙◌}
+use mathlib.Core.Path.{◌≡◌, refl, ◌∙◌}
 use mathlib.Core.List.{List}
 use Prim.Native.Nat.{ℕ, ◌-◌, ◌≤◌}
 use native.Mathlib.Omega.{arith}
 use lib.ListN.{length, drop, length-drop, take}
 use lib.Seq.{take_all}
+use Rattle.text.specs.declared.words.Figure.TheVariants.{Value, Off}
 use Rattle.text.proofs.Readings.{figure-known, figure-none}
 use Rattle.text.proofs.Readings.{sample-empty, sample-minus, sample-minus-off, sample-plain, sample-plain-off}
 use Rattle.text.proofs.words.read_sample.Goals as goal
@@ -18,34 +19,21 @@ returns-then-word-lt1 c = sample-empty _ (omega arith)
 
 pub returns-in-Value : goal.returns-in-Value
 returns-in-Value c =
-    let read = c in
-    let signed = read in
-    let w = signed.args.word.now in
-    let r = read.read_figure in
-    let k = figure-known (drop 1 w) r.result _ (rw (after_first w (omega arith)) at r.ensures) c.v-1.given.1 in
-    c.negative.ensures ∙ sample-minus w signed.if-word-eq45.true _ k.0 k.1
+    let w = c.args.word.now in
+    let k = figure-known (drop 1 w) (Value c.in-Value.v) c.in-Value.v (rw (after_first w (omega arith)) at c.in-Value.ensures) refl in
+    c.negative.ensures ∙ sample-minus w c.if-word-eq45.true _ k.0 k.1
 
 pub returns-in-Off : goal.returns-in-Off
 returns-in-Off c =
-    let read = c in
-    let signed = read in
-    let w = signed.args.word.now in
-    let r = read.read_figure in
-    let k = figure-none (drop 1 w) r.result (rw (after_first w (omega arith)) at r.ensures) c.enum_told-1.given.1 in
-    sample-minus-off w signed.if-word-eq45.true k
+    let w = c.args.word.now in
+    let k = figure-none (drop 1 w) Off (rw (after_first w (omega arith)) at c.in-Off.ensures) refl in
+    sample-minus-off w c.if-word-eq45.true k
 
 pub returns-in-Value-read_figure : goal.returns-in-Value-read_figure
 returns-in-Value-read_figure c =
-    let read = c in
-    let plain = read in
-    let w = plain.args.word.now in
-    let r = read.read_figure-else-word-eq45 in
-    let k = figure-known w r.result _ r.ensures c.v-in-Value-read_figure-2-1.given.1 in
-    c.positive.ensures ∙ sample-plain w plain.if-word-eq45.false _ k.0 k.1
+    let w = c.args.word.now in
+    let k = figure-known w (Value c.in-Value-read_figure.v) c.in-Value-read_figure.v c.in-Value-read_figure.ensures refl in
+    c.positive.ensures ∙ sample-plain w c.if-word-eq45.false _ k.0 k.1
 
 pub returns-in-Off-read_figure : goal.returns-in-Off-read_figure
-returns-in-Off-read_figure c =
-    let plain = c in
-    let w = plain.args.word.now in
-    let r = c.read_figure-else-word-eq45 in
-    sample-plain-off w plain.if-word-eq45.false (figure-none w r.result r.ensures c.enum_told-in-Off-read_figure-1.given.1)
+returns-in-Off-read_figure c = sample-plain-off c.args.word.now c.if-word-eq45.false (figure-none c.args.word.now Off c.in-Off-read_figure.ensures refl)

@@ -1,6 +1,5 @@
 -- `text::words::same` compares byte by byte. The loop's invariant: the texts are the same if what is left of them is.
 use mathlib.Core.Path.{refl, sym, ◌∙◌}
-use Prim.Native.Nat.{◌-◌}
 use native.Mathlib.Omega.{arith}
 use Rattle.text.proofs.Searches.{same-on, same-off, same_end, same_length}
 use Rattle.text.proofs.words.same.Goals as goal
