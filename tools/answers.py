@@ -169,9 +169,9 @@ class Turn:
             out, kind = walk(m.group(1), m.group(2).split(".")[1:])
             return ".".join([m.group(1)] + out)
 
-        PATH = re.compile(r"(?<![\w.'-])([A-Za-z_][\w']*)((?:\.[\w'-]+)+)")
-        LET = re.compile(r"let ([A-Za-z][\w'-]*) = ([A-Za-z_][\w']*)((?:\.[\w'-]+)*) in")
-        lines = re.split(r"(let [A-Za-z][\w'-]* = [A-Za-z_][\w']*(?:\.[\w'-]+)* in)", t)
+        PATH = re.compile(r"(?<![\w.'-])([A-Za-z_][\w'-]*)((?:\.[\w'-]+)+)")
+        LET = re.compile(r"let ([A-Za-z][\w'-]*) = ([A-Za-z_][\w'-]*)((?:\.[\w'-]+)*) in")
+        lines = re.split(r"(let [A-Za-z][\w'-]* = [A-Za-z_][\w'-]*(?:\.[\w'-]+)* in)", t)
         done = []
         for part in lines:
             m = LET.fullmatch(part)

@@ -1,6 +1,8 @@
 // Byte strings as what a call on numbers is lent: the lists that it works on are read from them, and written back where it was
 // accepted.
 
+#![tactic(auto)]
+
 ghost use Rattle.std.specs.Prelude.{◌≡◌, ◌*◌, ◌≤◌, ◌∷◌, [], ◌++◌, length, take};
 ghost use Rattle.layout.specs.Items.{items_of, bytes_of};
 ghost use Rattle.path.specs.Buffer.{overwritten_to};
