@@ -135,7 +135,7 @@ class Turn:
                     out.append(f.replace("-", "_"))
                     kind = None
                 elif k == "step":
-                    g = {"inv": "invariant", "pre": "requires", "taken": "true"}.get(f, f)
+                    g = {"inv": "invariant", "pre": "requires", "taken": "true", "left": "false"}.get(f, f)
                     vs = self.vars.get(kind[1])
                     if vs:
                         back = {"auto": "kept", "new": "last"}.get(g)

@@ -1,0 +1,12 @@
+-- `signal::clear_bytes` meets its contract. The loop's invariant: the places passed are 0, and the others as they were.
+use mathlib.Core.Path.{◌≡◌}
+use mathlib.Core.List.{◌++◌}
+use Prim.Native.Nat.{◌-◌, ◌≤◌}
+use lib.ListN.{length, replicate, drop}
+use Rattle.signal.proofs.clear_bytes.Given as goal
+
+abbrev pub invariant-loop-i : goal.invariant-loop-i
+invariant-loop-i l = (l.i ≤ length l.initial.scratch) × (length l.scratch ≡ length l.initial.scratch) × (l.scratch ≡ replicate l.i 0 ++ drop l.i l.initial.scratch)
+
+abbrev pub decreases-loop-i : goal.decreases-loop-i
+decreases-loop-i l = length l.initial.scratch - l.i
