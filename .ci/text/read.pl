@@ -13,8 +13,11 @@ use Digest::SHA qw(sha256_hex);
 my ($what, $tree, $list) = @ARGV;
 my (%functions, %outside, %uses, %modules, %types, @odd, @sections);
 
-# Forms that could hide a name or a text from this reading: none may stand anywhere, between functions, within one, or in a literal.
-my $hides = qr{\#\[(?!no_mangle\]|repr\(C\)\])[^\]]*\]|/\*|\br\#|\bmacro_rules\b|\btrait\b|\bfn\s*\(|(?<!\w)::|::(?!\w)|\w!\s*[(\[\{]};
+# Forms that could hide a name or a text from this reading: none may stand anywhere, between functions, within one, or in a literal. The
+# macros that are left are std's, and hide nothing that they are given.
+my $plain = qr{unsafe\(no_mangle\)|repr\(C\)|derive\((?:Clone|Copy|Drop|, )+\)|cycle\(\w+\)};
+my $macros = qr/(?:e?print(?:ln)?|write(?:ln)?|format|vec|assert(?:_eq|_ne)?|prove|matches)/;
+my $hides = qr{\#!?\[(?!$plain\])[^\]]*\]|/\*|\br\#|\bmacro_rules\b|\btrait\b|\bfn\s*\(|(?<!\w)::|::(?!\w)|(?<!\w)(?!$macros!)\w+!\s*[(\[\{]};
 my $hides_outside = qr/\bpub use\b[^;]*|\buse\b[^;]*(?:\bas\b|[{*])[^;]*|\bmod\s+\w+\s*\{|\bfn\b.{0,40}|[^\x00-\x7f]+/;
 my $hides_within = qr/\b(?:fn|use|mod|impl|type|const|static)\b/;
 my $hides_in_literals = qr/\bb?r#*"/;
@@ -39,6 +42,7 @@ sub joined {
     $text =~ s/\s+/ /g;
     $text =~ s/([(\[]) /$1/g;
     $text =~ s/,? ([)\]])/$1/g;
+    $text =~ s/, \}/ }/g;
     $text =~ s/^ | $//g;
     return $text;
 }
@@ -62,8 +66,24 @@ sub statements {
     return @lines;
 }
 
-# Reads a file: its functions, uses, modules and types, and what stands outside its functions. Remarks, contracts and what is brought
-# for contracts are left out, and so are brackets in literals. Forms that could hide something are kept apart.
+# The paths that a use brings: `a::{b, c::{d, e}}` brings `a::b`, `a::c::d` and `a::c::e`, and `a::{self}` brings `a`.
+sub brought {
+    my ($text) = @_;
+    my ($start, $group) = $text =~ /^([^{}]*)\{(.*)\}$/s or return $text =~ s/::self$//r;
+    my ($item, $depth, @items) = ('', 0);
+    for my $c (split //, "$group,") {
+        $depth++ if $c eq '{';
+        $depth-- if $c eq '}';
+        if ($c ne ',' || $depth) { $item .= $c; next }
+        push @items, $item if $item ne '';
+        $item = '';
+    }
+    return map { brought("$start$_") } @items;
+}
+
+# Reads a file: its functions, uses, modules and types, and what stands outside its functions. Remarks, contracts, what is brought for
+# contracts and what is said of tactics are left out, and so are brackets in literals. A use of several paths stands as so many uses.
+# Forms that could hide something are kept apart.
 sub read_file {
     my ($crate, $module, $file) = @_;
     open my $in, '<', $file or die "$file: $!\n";
@@ -71,6 +91,8 @@ sub read_file {
     push @odd, "$module has: $1" while $text =~ /($hides_in_literals)/g;
     $text =~ s{("(?:\\.|[^"\\])*"|'(?:\\.|[^'\\])')|//[^\n]*}{defined $1 ? $1 =~ tr/()[]{}/....../r : ''}gse;
     $text =~ s/\bghost use [^;]*;//g;
+    $text =~ s/\#!?\[tactic\([\w, ():]*\)\]//g;
+    $text =~ s{\b((?:pub\s+)?use\s+)([^;]*);}{my $use = $1; join ' ', map { "$use$_;" } brought($2 =~ s/\s+(?=[{},])|(?<=[{},])\s+//gr)}ge;
     my ($rest, $from) = ('', 0);
     while ($text =~ /(?:\bpub\s+)?(?:\bextern\s+"C"\s+)?\bfn\s+(\w+)\s*(?:<[^>()]*>\s*)?(?=\()/g) {
         my ($name, $start) = ($1, $-[0]);
@@ -140,7 +162,7 @@ sub crates_below {
     my @next = @_;
     my (%needs, %below);
     open my $in, '<', "$tree/crates.txt" or die "$tree/crates.txt: $!\n";
-    while (<$in>) { $needs{$1} = [split ' ', $2] if /^(\w+):(.*)/ }
+    while (<$in>) { $needs{$1} = [split ' ', $2] if /^(\w+)(?: +staticlib)? *:([^#]*)/ }
     while (defined(my $crate = shift @next)) { push @next, @{ $needs{$crate} // [] } unless $below{$crate}++ }
     return \%below;
 }
