@@ -135,12 +135,12 @@ class Turn:
                     out.append(f.replace("-", "_"))
                     kind = None
                 elif k == "step":
-                    g = {"inv": "invariant", "pre": "requires", "taken": "true", "left": "false"}.get(f, f)
+                    g = {"inv": "invariant", "pre": "requires", "taken": "true", "left": "false", "type-inv": "type_inv"}.get(f, f)
                     vs = self.vars.get(kind[1])
                     if vs:
                         back = {"auto": "kept", "new": "last"}.get(g)
                         h = g.replace("-", "_")
-                        g = h if h in vs else back if back in vs else g
+                        g = f if f in vs else h if h in vs else back if back in vs else g
                     if kind[1] in self.callee:
                         g = {"kept": "auto", "last": "new"}.get(g, g)
                     for a, b in self.fields.get(kind[1]) or []:

@@ -1,0 +1,11 @@
+-- `stream::cut_back` meets its contract. The invariant: the segments written so far, behind the segmentation of the first `to` samples
+-- into `left` segments, are those of the whole signal.
+use Rattle.stream.specs.SplitFrom.{segment_buffers}
+use Rattle.stream.proofs.Cuts.{CutTo}
+use Rattle.stream.proofs.cut_back.Given as goal
+
+abbrev pub invariant-loop-left : goal.invariant-loop-left
+invariant-loop-left l = CutTo l.samples l.table l.segments (segment_buffers l.initial.starts l.initial.levels) (segment_buffers l.starts l.levels) l.left l.to l.loss
+
+abbrev pub decreases-loop-left : goal.decreases-loop-left
+decreases-loop-left l = l.left
