@@ -5,7 +5,7 @@ use testing::list::{MARK, copy, differences, within};
 use testing::text::print;
 
 // The number of places of three buffers: of sizes, losses and weights.
-#[derive(Drop)]
+#[derive(Clone, Copy)]
 pub struct Rooms {
     pub sizes: usize,
     pub losses: usize,
@@ -29,7 +29,7 @@ impl Rooms {
 }
 
 // Prints what an append or a build answered, and the number of places at which three buffers are not as before.
-pub fn print_answer(
+pub fn print_answer(rt: &impl Print, 
     answer: Answer,
     sizes: &[u64; 4100],
     losses: &[u64; 4100],
@@ -38,7 +38,7 @@ pub fn print_answer(
     losses_before: &[u64; 4100],
     weights_before: &[u64; 4100],
 ) {
-    print(
+    print(rt, 
         b": refusal # entries # tests # changed # # #\n",
         &[
             answer.refusal,
@@ -53,7 +53,7 @@ pub fn print_answer(
 
 // An append to a path in the first places of buffers that have it at the front. Where the buffers have not so many places, no
 // call is made and the line ends early.
-pub fn print_append(
+pub fn print_append(rt: &impl Print, 
     sizes: &[u64],
     losses: &[u64],
     weights: &[u64],
@@ -87,7 +87,7 @@ pub fn print_append(
         loss,
         weight,
     );
-    print_answer(
+    print_answer(rt, 
         answer_of(made),
         &path_sizes,
         &path_losses,
@@ -100,7 +100,7 @@ pub fn print_append(
 
 // Prints on a line of its own what the older method answered, the number of places at which three buffers are not as before, and
 // the number of those that do not hold what a build left.
-fn print_older(
+fn print_older(rt: &impl Print, 
     answer: Answer,
     sizes: &[u64; 4100],
     losses: &[u64; 4100],
@@ -110,7 +110,7 @@ fn print_older(
     built_losses: &[u64; 4100],
     built_weights: &[u64; 4100],
 ) {
-    print(
+    print(rt, 
         b"  by the older method: refusal # entries # tests # changed # # # not as built # # #\n",
         &[
             answer.refusal,
@@ -127,7 +127,7 @@ fn print_older(
 }
 
 // A build by the older method in the first places of buffers, beside what a build left in others.
-pub fn print_quadratic(
+pub fn print_quadratic(rt: &impl Print, 
     sizes: &[u64],
     losses: &[u64],
     weights: &[u64],
@@ -154,7 +154,7 @@ pub fn print_quadratic(
         &mut path_losses[0..losses_room],
         &mut path_weights[0..weights_room],
     );
-    print_older(
+    print_older(rt, 
         answer_of(made),
         &path_sizes,
         &path_losses,
@@ -168,7 +168,7 @@ pub fn print_quadratic(
 
 // A build by both methods in the first places of buffers. Where the buffers have not so many places, no call is made and the line
 // ends early.
-pub fn print_build(sizes: &[u64], losses: &[u64], weights: &[u64], rooms: Rooms) {
+pub fn print_build(rt: &impl Print, sizes: &[u64], losses: &[u64], weights: &[u64], rooms: Rooms) {
     let before = [MARK; 4100];
     let mut path_sizes = before;
     let mut path_losses = before;
@@ -187,7 +187,7 @@ pub fn print_build(sizes: &[u64], losses: &[u64], weights: &[u64], rooms: Rooms)
         &mut path_losses[0..losses_room],
         &mut path_weights[0..weights_room],
     );
-    print_answer(
+    print_answer(rt, 
         answer_of(made),
         &path_sizes,
         &path_losses,
@@ -196,7 +196,7 @@ pub fn print_build(sizes: &[u64], losses: &[u64], weights: &[u64], rooms: Rooms)
         &before,
         &before,
     );
-    print_quadratic(
+    print_quadratic(rt, 
         sizes,
         losses,
         weights,
@@ -208,7 +208,7 @@ pub fn print_build(sizes: &[u64], losses: &[u64], weights: &[u64], rooms: Rooms)
 }
 
 // A selection at the penalty p / q from a lent path, and a list of its breakpoints in as many places as there can be.
-pub fn print_selection(
+pub fn print_selection(rt: &impl Print, 
     sizes: &[u64],
     losses: &[u64],
     weights: &[u64],
@@ -228,7 +228,7 @@ pub fn print_selection(
         &mut numerators,
         &mut denominators,
     );
-    print(
+    print(rt, 
         b": refusal # index # size # loss # weight #, breakpoints: refusal # count # changed # #\n",
         &[
             model.refusal,
@@ -245,7 +245,7 @@ pub fn print_selection(
 }
 
 // A list of the breakpoints of a lent path in buffers of one place.
-pub fn print_breakpoints(sizes: &[u64], losses: &[u64], weights: &[u64], entries: usize) {
+pub fn print_breakpoints(rt: &impl Print, sizes: &[u64], losses: &[u64], weights: &[u64], entries: usize) {
     let mut numerators = [MARK; 1];
     let mut denominators = [MARK; 1];
     let listed = select::breakpoints(
@@ -256,7 +256,7 @@ pub fn print_breakpoints(sizes: &[u64], losses: &[u64], weights: &[u64], entries
         &mut numerators,
         &mut denominators,
     );
-    print(
+    print(rt, 
         b": refusal # count # and # / #\n",
         &[
             listed.refusal,
