@@ -156,7 +156,8 @@ fn check_many(paths: u64) -> Counts {
 
 pub fn run(rt: &impl Print) {
     let counts = check_many(20000);
-    print(rt, 
+    print(
+        rt,
         b"20000 damaged paths: mismatches #, refused #\n",
         &[counts.faults, counts.refused],
     );

@@ -363,7 +363,8 @@ fn check_many(lists: u64) -> Totals {
 
 pub fn run(rt: &impl Print) {
     let totals = check_many(20000);
-    print(rt, 
+    print(
+        rt,
         b"20000 lists: mismatches #, models #, passed over #, entries #, tests #\n",
         &[
             totals.faults,

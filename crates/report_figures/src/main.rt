@@ -20,7 +20,8 @@ fn count_sevens(bytes: &[u8]) -> u64 {
 fn try_report(rt: &impl Print, input: &[u8], output: &mut [u8]) {
     let made = report::report(input, output);
     let kept = count_sevens(output);
-    print(rt, 
+    print(
+        rt,
         b"buffer of #: refusal #, length #, bytes kept #\n",
         &[output.len() as u64, made.refusal, made.length as u64, kept],
     );

@@ -29,7 +29,8 @@ impl Rooms {
 }
 
 // Prints what an append or a build answered, and the number of places at which three buffers are not as before.
-pub fn print_answer(rt: &impl Print, 
+pub fn print_answer(
+    rt: &impl Print,
     answer: Answer,
     sizes: &[u64; 4100],
     losses: &[u64; 4100],
@@ -38,7 +39,8 @@ pub fn print_answer(rt: &impl Print,
     losses_before: &[u64; 4100],
     weights_before: &[u64; 4100],
 ) {
-    print(rt, 
+    print(
+        rt,
         b": refusal # entries # tests # changed # # #\n",
         &[
             answer.refusal,
@@ -53,7 +55,8 @@ pub fn print_answer(rt: &impl Print,
 
 // An append to a path in the first places of buffers that have it at the front. Where the buffers have not so many places, no
 // call is made and the line ends early.
-pub fn print_append(rt: &impl Print, 
+pub fn print_append(
+    rt: &impl Print,
     sizes: &[u64],
     losses: &[u64],
     weights: &[u64],
@@ -87,7 +90,8 @@ pub fn print_append(rt: &impl Print,
         loss,
         weight,
     );
-    print_answer(rt, 
+    print_answer(
+        rt,
         answer_of(made),
         &path_sizes,
         &path_losses,
@@ -100,7 +104,8 @@ pub fn print_append(rt: &impl Print,
 
 // Prints on a line of its own what the older method answered, the number of places at which three buffers are not as before, and
 // the number of those that do not hold what a build left.
-fn print_older(rt: &impl Print, 
+fn print_older(
+    rt: &impl Print,
     answer: Answer,
     sizes: &[u64; 4100],
     losses: &[u64; 4100],
@@ -110,7 +115,8 @@ fn print_older(rt: &impl Print,
     built_losses: &[u64; 4100],
     built_weights: &[u64; 4100],
 ) {
-    print(rt, 
+    print(
+        rt,
         b"  by the older method: refusal # entries # tests # changed # # # not as built # # #\n",
         &[
             answer.refusal,
@@ -127,7 +133,8 @@ fn print_older(rt: &impl Print,
 }
 
 // A build by the older method in the first places of buffers, beside what a build left in others.
-pub fn print_quadratic(rt: &impl Print, 
+pub fn print_quadratic(
+    rt: &impl Print,
     sizes: &[u64],
     losses: &[u64],
     weights: &[u64],
@@ -154,7 +161,8 @@ pub fn print_quadratic(rt: &impl Print,
         &mut path_losses[0..losses_room],
         &mut path_weights[0..weights_room],
     );
-    print_older(rt, 
+    print_older(
+        rt,
         answer_of(made),
         &path_sizes,
         &path_losses,
@@ -187,7 +195,8 @@ pub fn print_build(rt: &impl Print, sizes: &[u64], losses: &[u64], weights: &[u6
         &mut path_losses[0..losses_room],
         &mut path_weights[0..weights_room],
     );
-    print_answer(rt, 
+    print_answer(
+        rt,
         answer_of(made),
         &path_sizes,
         &path_losses,
@@ -196,7 +205,8 @@ pub fn print_build(rt: &impl Print, sizes: &[u64], losses: &[u64], weights: &[u6
         &before,
         &before,
     );
-    print_quadratic(rt, 
+    print_quadratic(
+        rt,
         sizes,
         losses,
         weights,
@@ -208,7 +218,8 @@ pub fn print_build(rt: &impl Print, sizes: &[u64], losses: &[u64], weights: &[u6
 }
 
 // A selection at the penalty p / q from a lent path, and a list of its breakpoints in as many places as there can be.
-pub fn print_selection(rt: &impl Print, 
+pub fn print_selection(
+    rt: &impl Print,
     sizes: &[u64],
     losses: &[u64],
     weights: &[u64],
@@ -228,7 +239,8 @@ pub fn print_selection(rt: &impl Print,
         &mut numerators,
         &mut denominators,
     );
-    print(rt, 
+    print(
+        rt,
         b": refusal # index # size # loss # weight #, breakpoints: refusal # count # changed # #\n",
         &[
             model.refusal,
@@ -245,7 +257,13 @@ pub fn print_selection(rt: &impl Print,
 }
 
 // A list of the breakpoints of a lent path in buffers of one place.
-pub fn print_breakpoints(rt: &impl Print, sizes: &[u64], losses: &[u64], weights: &[u64], entries: usize) {
+pub fn print_breakpoints(
+    rt: &impl Print,
+    sizes: &[u64],
+    losses: &[u64],
+    weights: &[u64],
+    entries: usize,
+) {
     let mut numerators = [MARK; 1];
     let mut denominators = [MARK; 1];
     let listed = select::breakpoints(
@@ -256,7 +274,8 @@ pub fn print_breakpoints(rt: &impl Print, sizes: &[u64], losses: &[u64], weights
         &mut numerators,
         &mut denominators,
     );
-    print(rt, 
+    print(
+        rt,
         b": refusal # count # and # / #\n",
         &[
             listed.refusal,
