@@ -9,7 +9,7 @@ use testing::search::in_range;
 use testing::text::print;
 
 // What came of some paths.
-#[derive(Drop)]
+#[derive(Clone, Copy)]
 struct Counts {
     faults: u64,
     refused: u64,
@@ -154,9 +154,10 @@ fn check_many(paths: u64) -> Counts {
     counts
 }
 
-pub fn run() {
+pub fn run(rt: &impl Print) {
     let counts = check_many(20000);
     print(
+        rt,
         b"20000 damaged paths: mismatches #, refused #\n",
         &[counts.faults, counts.refused],
     );

@@ -11,7 +11,7 @@ use testing::search::cheapest;
 use testing::text::print;
 
 // What was compared.
-#[derive(Drop)]
+#[derive(Clone, Copy)]
 struct Totals {
     faults: u64,
     models: u64,
@@ -361,9 +361,10 @@ fn check_many(lists: u64) -> Totals {
     totals
 }
 
-pub fn run() {
+pub fn run(rt: &impl Print) {
     let totals = check_many(20000);
     print(
+        rt,
         b"20000 lists: mismatches #, models #, passed over #, entries #, tests #\n",
         &[
             totals.faults,

@@ -1,5 +1,6 @@
 // The report call with output buffers one byte too short, just long enough and longer: the refusal, the length of the text, and
 // how many bytes of the buffer still hold the 7 that they held before. The texts themselves are compared by tests/report.
+#![tactic(auto)]
 
 use testing::number::plus;
 use testing::text::print;
@@ -16,10 +17,11 @@ fn count_sevens(bytes: &[u8]) -> u64 {
 }
 
 // Makes the call and prints what came of it.
-fn try_report(input: &[u8], output: &mut [u8]) {
+fn try_report(rt: &impl Print, input: &[u8], output: &mut [u8]) {
     let made = report::report(input, output);
     let kept = count_sevens(output);
     print(
+        rt,
         b"buffer of #: refusal #, length #, bytes kept #\n",
         &[output.len() as u64, made.refusal, made.length as u64, kept],
     );
@@ -41,31 +43,31 @@ fn long_buffer() -> [u8; 1232904] {
 }
 
 // The call with the buffer that is too short.
-fn try_short(input: &[u8]) {
+fn try_short(rt: &impl Print, input: &[u8]) {
     let mut output = short_buffer();
-    try_report(input, &mut output);
+    try_report(rt, input, &mut output);
 }
 
 // The call with the buffer that is just long enough.
-fn try_exact(input: &[u8]) {
+fn try_exact(rt: &impl Print, input: &[u8]) {
     let mut output = exact_buffer();
-    try_report(input, &mut output);
+    try_report(rt, input, &mut output);
 }
 
 // The call with the longer buffer.
-fn try_long(input: &[u8]) {
+fn try_long(rt: &impl Print, input: &[u8]) {
     let mut output = long_buffer();
-    try_report(input, &mut output);
+    try_report(rt, input, &mut output);
 }
 
-fn main() {
+fn main(rt: HostRuntime) {
     let split = b"(record 0 1 0)\n(limit 3)\n(note (line 2) test)\n(price 1 4)\n(price 1 2)\n";
     let refused = b"(record)\n";
     let mut none = [7u8; 0];
-    try_report(split, &mut none);
-    try_short(split);
-    try_exact(split);
-    try_long(split);
-    try_short(refused);
-    try_exact(refused);
+    try_report(&rt, split, &mut none);
+    try_short(&rt, split);
+    try_exact(&rt, split);
+    try_long(&rt, split);
+    try_short(&rt, refused);
+    try_exact(&rt, refused);
 }

@@ -7,7 +7,7 @@ use testing::sample::{LEVEL_MARK, START_MARK, levels_of, starts_of};
 
 // What a call is given beside the samples: the limit, the least length of a segment, the weights and how many of them are lent, the
 // penalty p / q, and the number of places of each buffer.
-#[derive(Drop)]
+#[derive(Clone, Copy)]
 pub struct Arguments {
     pub limit: u64,
     pub min_segment_len: u64,

@@ -3,7 +3,7 @@
 use crate::number::NONE;
 use path::PathResult;
 
-#[derive(Drop)]
+#[derive(Clone, Copy)]
 pub struct Answer {
     pub refusal: u64,
     pub entries: u64,

@@ -12,7 +12,7 @@ pub const CELLS: usize = 16929;
 
 // What is known of a signal: the number of its samples, the sums of its first samples, the least loss of each size, the start of
 // the last segment, less one, in each cell, and the number of faults of the programme itself.
-#[derive(Drop)]
+#[derive(Clone, Copy)]
 pub struct Programme {
     pub count: u64,
     pub sums: [u64; 513],
@@ -22,7 +22,7 @@ pub struct Programme {
 }
 
 // The start of a last segment, less one, and the loss with it.
-#[derive(Drop)]
+#[derive(Clone, Copy)]
 pub struct LastSegment {
     pub start: u64,
     pub loss: u64,

@@ -5,7 +5,7 @@ use crate::number::{NONE, minus, plus, times};
 use crate::search::put_path;
 
 // The number of segments, their loss, their starts, counted from 1, and their levels, with marks after these.
-#[derive(Drop)]
+#[derive(Clone, Copy)]
 pub struct Segmentation {
     pub count: u64,
     pub loss: u64,

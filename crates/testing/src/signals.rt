@@ -8,7 +8,7 @@ use crate::random::{below, next};
 pub const KINDS: u64 = 12;
 
 // Samples of a kind are drawn from so many numbers, from the lowest on and each a step above the one before. They are raised.
-#[derive(Drop)]
+#[derive(Clone, Copy)]
 struct Kind {
     lowest: u64,
     step: u64,

@@ -5,7 +5,7 @@ use testing::list::{MARK, copy, differences, within};
 use testing::text::print;
 
 // The number of places of three buffers: of sizes, losses and weights.
-#[derive(Drop)]
+#[derive(Clone, Copy)]
 pub struct Rooms {
     pub sizes: usize,
     pub losses: usize,
@@ -30,6 +30,7 @@ impl Rooms {
 
 // Prints what an append or a build answered, and the number of places at which three buffers are not as before.
 pub fn print_answer(
+    rt: &impl Print,
     answer: Answer,
     sizes: &[u64; 4100],
     losses: &[u64; 4100],
@@ -39,6 +40,7 @@ pub fn print_answer(
     weights_before: &[u64; 4100],
 ) {
     print(
+        rt,
         b": refusal # entries # tests # changed # # #\n",
         &[
             answer.refusal,
@@ -54,6 +56,7 @@ pub fn print_answer(
 // An append to a path in the first places of buffers that have it at the front. Where the buffers have not so many places, no
 // call is made and the line ends early.
 pub fn print_append(
+    rt: &impl Print,
     sizes: &[u64],
     losses: &[u64],
     weights: &[u64],
@@ -88,6 +91,7 @@ pub fn print_append(
         weight,
     );
     print_answer(
+        rt,
         answer_of(made),
         &path_sizes,
         &path_losses,
@@ -101,6 +105,7 @@ pub fn print_append(
 // Prints on a line of its own what the older method answered, the number of places at which three buffers are not as before, and
 // the number of those that do not hold what a build left.
 fn print_older(
+    rt: &impl Print,
     answer: Answer,
     sizes: &[u64; 4100],
     losses: &[u64; 4100],
@@ -111,6 +116,7 @@ fn print_older(
     built_weights: &[u64; 4100],
 ) {
     print(
+        rt,
         b"  by the older method: refusal # entries # tests # changed # # # not as built # # #\n",
         &[
             answer.refusal,
@@ -128,6 +134,7 @@ fn print_older(
 
 // A build by the older method in the first places of buffers, beside what a build left in others.
 pub fn print_quadratic(
+    rt: &impl Print,
     sizes: &[u64],
     losses: &[u64],
     weights: &[u64],
@@ -155,6 +162,7 @@ pub fn print_quadratic(
         &mut path_weights[0..weights_room],
     );
     print_older(
+        rt,
         answer_of(made),
         &path_sizes,
         &path_losses,
@@ -168,7 +176,7 @@ pub fn print_quadratic(
 
 // A build by both methods in the first places of buffers. Where the buffers have not so many places, no call is made and the line
 // ends early.
-pub fn print_build(sizes: &[u64], losses: &[u64], weights: &[u64], rooms: Rooms) {
+pub fn print_build(rt: &impl Print, sizes: &[u64], losses: &[u64], weights: &[u64], rooms: Rooms) {
     let before = [MARK; 4100];
     let mut path_sizes = before;
     let mut path_losses = before;
@@ -188,6 +196,7 @@ pub fn print_build(sizes: &[u64], losses: &[u64], weights: &[u64], rooms: Rooms)
         &mut path_weights[0..weights_room],
     );
     print_answer(
+        rt,
         answer_of(made),
         &path_sizes,
         &path_losses,
@@ -197,6 +206,7 @@ pub fn print_build(sizes: &[u64], losses: &[u64], weights: &[u64], rooms: Rooms)
         &before,
     );
     print_quadratic(
+        rt,
         sizes,
         losses,
         weights,
@@ -209,6 +219,7 @@ pub fn print_build(sizes: &[u64], losses: &[u64], weights: &[u64], rooms: Rooms)
 
 // A selection at the penalty p / q from a lent path, and a list of its breakpoints in as many places as there can be.
 pub fn print_selection(
+    rt: &impl Print,
     sizes: &[u64],
     losses: &[u64],
     weights: &[u64],
@@ -229,6 +240,7 @@ pub fn print_selection(
         &mut denominators,
     );
     print(
+        rt,
         b": refusal # index # size # loss # weight #, breakpoints: refusal # count # changed # #\n",
         &[
             model.refusal,
@@ -245,7 +257,13 @@ pub fn print_selection(
 }
 
 // A list of the breakpoints of a lent path in buffers of one place.
-pub fn print_breakpoints(sizes: &[u64], losses: &[u64], weights: &[u64], entries: usize) {
+pub fn print_breakpoints(
+    rt: &impl Print,
+    sizes: &[u64],
+    losses: &[u64],
+    weights: &[u64],
+    entries: usize,
+) {
     let mut numerators = [MARK; 1];
     let mut denominators = [MARK; 1];
     let listed = select::breakpoints(
@@ -257,6 +275,7 @@ pub fn print_breakpoints(sizes: &[u64], losses: &[u64], weights: &[u64], entries
         &mut denominators,
     );
     print(
+        rt,
         b": refusal # count # and # / #\n",
         &[
             listed.refusal,
