@@ -20,7 +20,7 @@ use path::{Kept, tally};
 use select::cost_of;
 
 // An entry of a path.
-#[derive(Drop)]
+#[derive(Clone, Copy)]
 pub struct Entry {
     pub size: u64,
     pub loss: u64,

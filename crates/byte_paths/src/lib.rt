@@ -1,6 +1,8 @@
 // The calls on a path over byte strings. An append, a selection and a listing of breakpoints read and write the bytes where they lie. A
 // build reads the models to lists of its own.
 
+#![tactic(auto)]
+
 ghost use Rattle.std.specs.Prelude.{◌≡◌, ◌+◌, length};
 ghost use Rattle.coding.specs.Coding.{outcome};
 ghost use Rattle.coding.specs.Models.{models_coding};

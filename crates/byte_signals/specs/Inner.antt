@@ -1,5 +1,5 @@
 -- What the inner functions ask for. A reader of the calls need not believe anything that stands here.
-use Rattle.std.specs.Prelude.{◌≡◌, List, ℕ, suc, ◌+◌, ◌/◌, min, length}
+use Rattle.std.specs.Prelude.{◌≡◌, ℕ, suc, ◌+◌, ◌/◌, min, length}
 use Rattle.coding.specs.Inner.{ListsFit}
 use Rattle.segment.specs.Segment.{max_samples}
 use Rattle.least.specs.Segmentation.{max_segments}

@@ -1,6 +1,8 @@
 // The calls on signals over byte strings. Samples and levels are two bytes each with a sign, starts, sizes and weights two without one,
 // losses eight, all with the low byte first.
 
+#![tactic(auto)]
+
 ghost use Rattle.std.specs.Prelude.{◌≡◌, ◌/◌, min, length, drop};
 ghost use Rattle.coding.specs.Coding.{outcome};
 ghost use Rattle.layout.specs.Items.{items_of};

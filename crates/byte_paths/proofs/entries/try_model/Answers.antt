@@ -8,25 +8,17 @@ use Rattle.path.specs.Model.{model, lists, path_of}
 use Rattle.path.specs.Update.{kept, tests_made}
 use Rattle.path.specs.Inner.{tally_of}
 use Rattle.path.proofs.Paths.{keeps-nothing}
-use borrow.Author.Rules.{rules}
-use Rattle.byte_paths.proofs.entries.try_model.Statement.{statement}
-use Rattle.byte_paths.proofs.entries.try_model.Tie as tie
+use Rattle.byte_paths.proofs.entries.try_model.Goals as goal
 
-returns : tie.Need-returns
-returns c s k =
-    let a = c.before.before.before.args in
+pub returns-then-entries-eq0 : goal.returns-then-entries-eq0
+returns-then-entries-eq0 c s k =
+    let a = c.args in
     let m = model k a.loss a.weight in
     let path = path_of (lists s (items_of 8 a.losses.now) (items_of 2 a.weights.now)) a.entries in
-    let g = keeps-nothing (lists s (items_of 8 a.losses.now) (items_of 2 a.weights.now)) m c.if1.true in
+    let g = keeps-nothing (lists s (items_of 8 a.losses.now) (items_of 2 a.weights.now)) m c.if-entries-eq0.true in
     let e : 0 ≡ length (kept path m) = sym g.0 in
     let n : a.tests ≡ tally_of (a.tests.count + tests_made path m) = ap tally_of (omega (arith, g.1)) in
     λ i. record { entries = e i; tests = n i }
 
-scan-requires : tie.Need-scan-requires
-scan-requires c κs = (omega arith, c.before.before.before.requires)
-
-returns-2 : tie.Need-returns-2
-returns-2 c = search rules
-
-pub try-model-spec : {M : Type 1} → statement M
-try-model-spec = tie.close (tie.spec returns scan-requires returns-2)
+pub scan-requires : goal.scan-requires
+scan-requires c = (omega arith, c.requires)
