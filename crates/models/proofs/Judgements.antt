@@ -55,6 +55,10 @@ module _ (ys : List Entry) (n : ℕ) (m : Model) where
   abbrev pub input : Input
   input = input_of n valid last m
 
+  -- It is what the calls make of what they are given.
+  pub input-is : (v : Bool) (before : ℕ) (e : Entry) (x : Input) → v ≡ valid → before ≡ n - 1 → e ≡ get_or ys before no_entry → x ≡ input_of n v e m → x ≡ input
+  input-is v before e x a b d is = is ∙ (λ i. input_of n (a i) ((d ∙ ap (λ (k : ℕ). get_or ys k no_entry) b) i) m)
+
   abbrev refusal : ℕ
   refusal = refusal_of (check 8 valid ∷ model_checks (path_of t n) m)
 

@@ -78,11 +78,6 @@ module _ (t : Lists) (n len : ℕ) (v : Bool) where
   abbrev pub Looking : Look → Type 0
   Looking s = Fresh s ⊎ (Reached s ⊎ Refused s)
 
-  pub look-within : (s : Look) → Looking s → s.left ≤ len
-  look-within s (inl h) = omega (arith, ap (λ (x : Look). x.left) h.is, h.room)
-  look-within s (inr (inl h)) = omega (arith, h.inside)
-  look-within s (inr (inr h)) = omega (arith, ap (λ (x : Look). x.left) h.is)
-
   -- The look at entry `at`.
   module _ (s : Look) (at : ℕ) (e : Entry) (some : s.left ≡ suc at) (is : model_at t at ≡ model_in e) where
     abbrev after : Look
@@ -186,14 +181,6 @@ module _ (t : Lists) (n len : ℕ) (v : Bool) where
       where
         none_left : suc at ≡ 0 → ⊥
         none_left h = omega arith
-
-    -- It leaves fewer entries.
-    pub look-less : (look_on s e).left < s.left
-    look-less = by-test (looks_right s e)
-      where
-        by-test : (b : Bool) → (cond b after no_look).left < s.left
-        by-test true = omega (arith, some)
-        by-test false = omega (arith, some)
 
   pub look-ends : (s : Look) → s.left ≡ 0 → Looking s → look_passes s ≡ v
   look-ends s z (inl h) = rw h.is (sym (ordered-none t (sym (ap (λ (x : Look). x.left) h.is) ∙ z)) ∙ h.same)

@@ -1,10 +1,10 @@
 -- Breakpoints written in place: what a buffer holds after i turns, and that this is what a listing promises.
-use mathlib.Core.Path.{◌≡◌, refl, sym, ◌∙◌}
+use mathlib.Core.Path.{◌≡◌, refl, ap, sym}
 use mathlib.Core.List.{List}
 use Prim.Native.Nat.{ℕ, zero, suc, ◌+◌, ◌-◌, ◌≤◌, ◌<◌}
 use native.Mathlib.Numerals.{add-one}
 use native.Mathlib.Omega.{arith}
-use lib.ListN.{length, get_or, set, length-set, length-map, get_or-map}
+use lib.ListN.{length, get_or, set, length-map, get_or-map}
 use Rattle.path.specs.Update.{Fraction}
 use Rattle.select.specs.Inner.{Listable, Written}
 use Rattle.select.proofs.Listings.{written_none, written-more}
@@ -24,10 +24,10 @@ unfoldable pub listed : (Entry → Entry → ℕ) → List Entry → List ℕ �
 listed f ys zs zero = zs
 listed f ys zs (suc i) = set (listed f ys zs i) i (f (get_or ys i no_entry) (get_or ys (i + 1) no_entry))
 
-pub length-listed : (f : Entry → Entry → ℕ) (ys : List Entry) (zs : List ℕ) (i : ℕ) → length (listed f ys zs i) ≡ length zs
+pub listed-more : (f : Entry → Entry → ℕ) (ys : List Entry) (zs : List ℕ) (i : ℕ)
+    → listed f ys zs (i + 1) ≡ set (listed f ys zs i) i (f (get_or ys i no_entry) (get_or ys (i + 1) no_entry))
 unfolding listed
-length-listed f ys zs zero = refl
-length-listed f ys zs (suc i) = length-set (listed f ys zs i) i _ ∙ length-listed f ys zs i
+listed-more f ys zs i = ap (listed f ys zs) (add-one i)
 
 -- A place of the losses or the weights.
 pub loss-at : (ys : List Entry) (i : ℕ) → loss_of (get_or ys i no_entry) ≡ get_or (losses_in ys) i 0
@@ -53,15 +53,13 @@ module _ (ys : List Entry) (zs : List ℕ) where
       (written-more (λ (b : Fraction). b.denominator) (losses_in ys) (weights_in ys) zs (listed weight_rise ys zs i) i (rises-written i (omega arith)) h _
       (λ s. rw (weight-at ys i, weight-at ys (i + 1)) refl))
 
--- In a turn every place that is read or written is inside its list, and no difference is negative.
-pub record Turn (ys : List Entry) (i count a b : ℕ) : Type 0 where
+-- In a turn the next entry is in the list, and no difference is negative.
+pub record Turn (ys : List Entry) (i : ℕ) : Type 0 where
   pub next-in : i + 1 < length ys
   pub fall : loss_of (get_or ys (i + 1) no_entry) ≤ loss_of (get_or ys i no_entry)
   pub rise : weight_of (get_or ys i no_entry) ≤ weight_of (get_or ys (i + 1) no_entry)
-  pub in-numerators : suc i ≤ a
-  pub in-denominators : suc i ≤ b
 
-pub turn-of : (ys : List Entry) (count a b : ℕ) → Listable (losses_in ys) (weights_in ys) count a b → (i : ℕ) → suc i ≤ count → Turn ys i count a b
+pub turn-of : (ys : List Entry) (count a b : ℕ) → Listable (losses_in ys) (weights_in ys) count a b → (i : ℕ) → suc i ≤ count → Turn ys i
 turn-of ys count a b h i p =
     let l = h.in_losses i p in
     let f = h.fall i p in
@@ -70,6 +68,4 @@ turn-of ys count a b h i p =
       next-in = omega (arith, l, length-map ys loss_of);
       fall = rw (loss-at ys i, loss-at ys (i + 1), add-one i) f;
       rise = rw (weight-at ys i, weight-at ys (i + 1), add-one i) r;
-      in-numerators = omega (arith, h.numerators_fit);
-      in-denominators = omega (arith, h.denominators_fit);
     }

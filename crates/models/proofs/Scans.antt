@@ -1,11 +1,11 @@
 -- A scan of entries in place: how it stands before a turn, and what a turn makes of that.
-use mathlib.Core.Path.{◌≡◌, refl, sym, ap, ◌∙◌}
+use mathlib.Core.Path.{◌≡◌, refl, sym, ap, subst, ◌∙◌}
 use mathlib.Core.Bool.{Bool, true, false, cond}
 use mathlib.Core.Logic.{⊎_elim}
 use mathlib.Core.List.{List, []}
 use Prim.Native.Nat.{ℕ, zero, suc, ◌+◌, ◌-◌, ◌^◌, ◌≤◌, ◌<◌, min}
 use native.Mathlib.Omega.{arith}
-use lib.ListN.{length, get_or, length-map}
+use lib.ListN.{length, get_or}
 use native.Mathlib.Nat.{eq-zero-or-pos}
 use lib.Dec.{eqb}
 use borrow.Author.Tests.{ne_eqb, eqb-true, eqb-false}
@@ -69,7 +69,7 @@ module _ (ys : List Entry) (n loss weight c₀ : ℕ) where
           record { some = many; few = omega arith; count = refl; keeps = λ s k. (refl, refl) }
 
   -- The test that is made at place a.
-  abbrev pub test_of : ℕ → Bool
+  abbrev test_of : ℕ → Bool
   test_of a = test_at a (loss_of (get_or ys (a - 1) no_entry)) (weight_of (get_or ys (a - 1) no_entry)) (loss_of (get_or ys a no_entry)) (weight_of (get_or ys a no_entry)) loss weight
 
   later : (l₀ w₀ l₁ w₁ b : ℕ) → test_at (suc b) l₀ w₀ l₁ w₁ loss weight ≡ below (fraction (l₁ - loss) (weight - w₁)) (fraction (l₀ - l₁) (w₁ - w₀))
@@ -85,33 +85,21 @@ module _ (ys : List Entry) (n loss weight c₀ : ℕ) where
       ∙ sym (later-holds (all s) (model_at (all s) (suc b)) (model k loss weight) (suc b) b refl)
 
   module _ (can : Scannable (losses_in ys) (weights_in ys) n loss weight c₀) where
-    pub there : (a : ℕ) → a < n → a < length ys
-    there a h = omega (arith, can.in_losses, length-map ys loss_of)
-
-    pub going-small : (i c : ℕ) → Going i c → c < 2 ^ 64
-    going-small i c g = omega (arith, can.countable, g.count)
-
-    pub small-place : (i c : ℕ) → Found i c → i ≤ length ys
-    small-place i c f = omega (arith, can.in_losses, length-map ys loss_of, f.few)
-
-    pub found-small : (i c : ℕ) → Found i c → c < 2 ^ 64
-    found-small i c f = omega (arith, can.countable, f.count, f.few)
-
     module _ (a c : ℕ) (g : Going (suc a) c) where
-      pub in_path : a < n
+      in_path : a < n
       in_path = omega (arith, g.few)
 
-      pub countable : c + a + 1 < 2 ^ 64
+      countable : c + a + 1 < 2 ^ 64
       countable = omega (arith, can.countable, g.count)
 
-      pub comparable : 1 ≤ a → Comparable (loss_of (get_or ys (a - 1) no_entry)) (weight_of (get_or ys (a - 1) no_entry)) (loss_of (get_or ys a no_entry)) (weight_of (get_or ys a no_entry)) loss weight
+      comparable : 1 ≤ a → Comparable (loss_of (get_or ys (a - 1) no_entry)) (weight_of (get_or ys (a - 1) no_entry)) (loss_of (get_or ys a no_entry)) (weight_of (get_or ys a no_entry)) loss weight
       comparable h =
           let e : suc (a - 1) ≡ a = omega arith in
           let near = can.near (a - 1) (omega (arith, in_path)) in
           rw (loss-at ys (a - 1), weight-at ys (a - 1), loss-at ys a, weight-at ys a) (rw e at near)
 
       -- The test is made, and comes out as h.
-      pub goes_on : (h : Bool) → h ≡ test_of a → Scanning a (c + 1) h
+      goes_on : (h : Bool) → h ≡ test_of a → Scanning a (c + 1) h
       goes_on true e = record {
         few = omega (arith, in_path);
         count = omega (arith, g.count, g.some);
@@ -132,3 +120,23 @@ module _ (ys : List Entry) (n loss weight c₀ : ℕ) where
             let last = drops-last (all s) (model k loss weight) (suc a) a refl (sym (e ∙ test-is a s k)) in
             (sym (ap length last.0) ∙ (g.keeps s k).0, omega (arith, last.1, (g.keeps s k).1));
       }
+
+    -- The turn at entry i - 1, before which stands `before`.
+    module _ (i c before : ℕ) (z : Bool) (b : before ≡ i - 1 - 1) (open_yet : z ≡ false) (s : Scanning i c z) where
+      abbrev old : Entry
+      old = get_or ys before no_entry
+
+      abbrev new : Entry
+      new = get_or ys (i - 1) no_entry
+
+      still : Going i c
+      still = subst (Scanning i c) open_yet s
+
+      going : Going (suc (i - 1)) c
+      going = let e : i ≡ suc (i - 1) = omega (arith, still.some) in subst (λ (k : ℕ). Going k c) e still
+
+      pub test-asks : (1 ≤ i - 1 → Comparable old.loss old.weight new.loss new.weight loss weight) × (c + (i - 1) + 1 < 2 ^ 64)
+      test-asks = (λ h. rw b (comparable (i - 1) c going h), countable (i - 1) c going)
+
+      pub test-goes_on : (h : Bool) → h ≡ test_at (i - 1) old.loss old.weight new.loss new.weight loss weight → Scanning (i - 1) (c + 1) h
+      test-goes_on h e = goes_on (i - 1) c going h (rw (← b) e)

@@ -3,7 +3,7 @@ use mathlib.Core.Path.{◌≡◌, refl, sym, ap, ◌∙◌}
 use mathlib.Core.List.{List, [], ◌∷◌, ◌++◌, map, append-nil, append_assoc}
 use Prim.Native.Nat.{ℕ, zero, suc, ◌+◌, ◌-◌, ◌≤◌, ◌<◌}
 use native.Mathlib.Omega.{arith}
-use lib.ListN.{length, set, take, drop, replicate, length-set, length-map, length-append, length-replicate, take-append-drop}
+use lib.ListN.{length, set, take, drop, replicate, length-map, length-append, length-replicate, take-append-drop}
 use lib.Seq.{length-take-le}
 use Rattle.path.specs.Model.{model, lists}
 use Rattle.path.specs.Buffer.{overwritten, overwritten_to}
@@ -18,10 +18,16 @@ unfoldable pub put : List Entry → ℕ → Entry → ℕ → List Entry
 put ys c e zero = set ys c e
 put ys c e (suc j) = set (put ys c e j) (c + 1 + j) no_entry
 
-pub length-put : (ys : List Entry) (c : ℕ) (e : Entry) (j : ℕ) → length (put ys c e j) ≡ length ys
+pub put-first : (ys : List Entry) (c : ℕ) (e : Entry) → put ys c e (c + 1 - (c + 1)) ≡ set ys c e
 unfolding put
-length-put ys c e zero = length-set ys c e
-length-put ys c e (suc j) = length-set (put ys c e j) (c + 1 + j) no_entry ∙ length-put ys c e j
+put-first ys c e = let z : c + 1 - (c + 1) ≡ 0 = omega arith in rw z refl
+
+pub put-more : (ys : List Entry) (c : ℕ) (e : Entry) (i : ℕ) → c + 1 ≤ i → put ys c e (i + 1 - (c + 1)) ≡ set (put ys c e (i - (c + 1))) i no_entry
+unfolding put
+put-more ys c e i h =
+    let s : i + 1 - (c + 1) ≡ suc (i - (c + 1)) = omega arith in
+    let p : c + 1 + (i - (c + 1)) ≡ i = omega arith in
+    rw s (ap (λ (k : ℕ). set (put ys c e (i - (c + 1))) k no_entry) p)
 
 -- A value again and again, and once more.
 once_more : (x j : ℕ) → replicate j x ++ (x ∷ []) ≡ replicate (suc j) x

@@ -68,7 +68,7 @@ module _ (t : Lists) (n p q : ℕ) where
           inr (inr (record { none = omega (arith, z); found = select-refused t n p q c refl ne }))
 
   -- A walk that is not over is at an accepted selection, and ends after n entries.
-  pub walk-open : (w : Walk) → Walking w → w.next < w.end → Selectable t n p q × (w.end ≡ n)
+  walk-open : (w : Walk) → Walking w → w.next < w.end → Selectable t n p q × (w.end ≡ n)
   walk-open w (inl h) less = (h.ok, h.end)
   walk-open w (inr (inl h)) less = (h.ok, h.end)
   walk-open w (inr (inr h)) less = absurd (impossible h.none)
@@ -152,14 +152,6 @@ module _ (t : Lists) (n p q : ℕ) where
       where
         impossible : w.end ≤ w.next → ⊥
         impossible g = omega arith
-
-    -- It leaves fewer entries.
-    pub walk-less : (walk_on w e p q).end - (walk_on w e p q).next < w.end - w.next
-    walk-less = by-test (leb w.cost price)
-      where
-        by-test : (b : Bool) → (cond b stopped moved).end - (cond b stopped moved).next < w.end - w.next
-        by-test true = omega arith
-        by-test false = omega arith
 
   pub walk_ends : (w : Walk) → w.end ≤ w.next → Walking w → w.found ≡ select_of t n p q
   walk_ends w none (inl h) = absurd (impossible h.ok.some h.next h.end)

@@ -10,9 +10,7 @@ use native.Mathlib.Omega.{arith}
 use Rattle.path.specs.Model.{model, lists, model_at}
 use Rattle.path.specs.Inner.{Comparable}
 use Rattle.path.proofs.Paths.{first_holds, later-holds}
-use borrow.Author.Rules.{rules}
-use Rattle.models.proofs.test_at.Statement.{statement}
-use Rattle.models.proofs.test_at.Tie as tie
+use Rattle.models.proofs.test_at.Goals as goal
 
 -- A choice at place 0, and at another place.
 at_first : (p : ℕ) (b : Bool) → p ≡ 0 → true ≡ cond (eqb p 0) true b
@@ -27,17 +25,17 @@ near_by : (l₀ l₁ w₀ w₁ loss weight : ℕ) → Comparable l₀ w₀ l₁ 
 near_by l₀ l₁ w₀ w₁ loss weight h zero p = h
 near_by l₀ l₁ w₀ w₁ loss weight h (suc i) p = absurd (omega arith)
 
-returns : tie.Need-returns
-returns c =
-    let s = c.before.before.before.before in
+pub returns-then-place-eq0 : goal.returns-then-place-eq0
+returns-then-place-eq0 c =
+    let s = c in
     let a = s.args in
     let one = lists [] (a.loss1 ∷ []) (a.weight1 ∷ []) in
     let r = c.test in
-    (r.ensures.0 [] 0 ∙ first_holds one (model_at one 0) (model 0 a.loss a.weight) refl ∙ at_first a.place _ c.before.before.before.if1.true, r.ensures.1)
+    (r.ensures.0 [] 0 ∙ first_holds one (model_at one 0) (model 0 a.loss a.weight) refl ∙ at_first a.place _ c.if-place-eq0.true, r.ensures.1)
 
-test-requires-2 : tie.Need-test-requires-2
-test-requires-2 c κs =
-    let s = c.before.before.before in
+pub test-requires-2 : goal.test-requires-2
+test-requires-2 c =
+    let s = c in
     let a = s.args in (
       omega arith,
       record {
@@ -48,23 +46,10 @@ test-requires-2 c κs =
       },
     )
 
-returns-2 : tie.Need-returns-2
-returns-2 c =
-    let s = c.before.before.before.before in
+pub returns : goal.returns
+returns c =
+    let s = c in
     let a = s.args in
     let two = lists [] (a.loss0 ∷ a.loss1 ∷ []) (a.weight0 ∷ a.weight1 ∷ []) in
-    let r = c.test2 in
-    (r.ensures.0 [] 0 ∙ later-holds two (model_at two 1) (model 0 a.loss a.weight) 1 0 refl ∙ at-later a.place _ c.before.before.before.if1.false, r.ensures.1)
-
-pub test-at-spec : {M : Type 1} → statement M
-test-at-spec =
-    tie.close
-    (tie.spec
-    (λ c. search rules)
-    (λ c. search rules)
-    (λ c κs. search rules)
-    returns
-    (λ c. search rules)
-    (λ c. search rules)
-    test-requires-2
-    returns-2)
+    let r = c.test-2 in
+    (r.ensures.0 [] 0 ∙ later-holds two (model_at two 1) (model 0 a.loss a.weight) 1 0 refl ∙ at-later a.place _ c.if-place-eq0.false, r.ensures.1)
