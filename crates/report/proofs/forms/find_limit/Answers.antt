@@ -9,61 +9,33 @@ use Rattle.report.proofs.Layouts.{limit_is, limit-is-not}
 use Rattle.report.proofs.Turns.{line_at, line-unended, line-none, limit-refused, limit-stops, limit-found, ended-limit, settled-off, recorded-settled}
 use Rattle.report.proofs.forms.find_limit.Goals as goal
 
--- The next line, where there is one.
-module _ (c : tie.After-start) where
-  abbrev input : List ℕ
-  input = c.before.before.before.before.args.input.now
-
-  abbrev at : ℕ
-  at = c.before.before.before.before.args.at
-
-  next : NextLine input at c.start.given.0.0 c.start.given.0.1.0
-  next =
-      let r = c.before.before.next-line in
-      line_at input at r.result r.ensures _ _ c.start.given.1
-
 pub slice_bounds-read_limit-count : goal.slice_bounds-read_limit-count
-slice_bounds-read_limit-count c = (next c).order
+slice_bounds-read_limit-count c = c.in-At.ensures.order
 
 pub read_limit-requires : goal.read_limit-requires
-read_limit-requires c = (next c).no_note
+read_limit-requires c = c.in-At.ensures.no_note
 
 pub judge_limit-requires : goal.judge_limit-requires
-judge_limit-requires c =
-    let lined = c in
-    let begun = lined in
-    omega (arith, (next lined).within, begun.requires.0)
+judge_limit-requires c = omega (arith, c.in-At.ensures.within, c.requires.0)
 
 pub returns-in-Value : goal.returns-in-Value
 returns-in-Value c =
-    let read = c in
-    let lined = read in
-    let r = read.read_limit in
-    let l = limit_is _ r.result _ c.limit-1.given.1 r.ensures in
-    rw c.judge_limit.ensures (limit-found (input lined) (at lined) _ _ (next lined) _ l)
+    rw c.judge_limit.ensures (limit-found c.args.input.now c.args.at _ _ c.in-At.ensures _ c.in-Value.ensures)
 
 pub returns-in-Off-read_limit : goal.returns-in-Off-read_limit
 returns-in-Off-read_limit c =
-    let read = c in
-    let lined = read in
-    let r = read.read_limit in
-    let other = limit-is-not _ r.result c.enum_told-1.given.1 r.ensures in
-    let stopped = limit-stops (input lined) (at lined) _ _ (next lined) other in
-    rw c.refused.ensures (limit-refused (input lined) (at lined) stopped)
+    let i = c.args.input.now in
+    let stopped = limit-stops i c.args.at _ _ c.in-At.ensures c.in-Off-read_limit.ensures in
+    rw c.refused.ensures (limit-refused i c.args.at stopped)
 
 pub returns-in-Off : goal.returns-in-Off
 returns-in-Off c =
-    let asked = c in
-    let a = asked.args in
-    let i = a.input.now in
-    let u = line-unended i a.at asked.next_line.result asked.next_line.ensures _ c.enum_told-in-Off-1.given.1 in
+    let i = c.args.input.now in
+    let at = c.args.at in
     rw c.refused-in-Off.ensures
-    (limit-refused i a.at (λ xs. settled-off (recorded xs) (recorded-settled xs) i a.at _ u))
+    (limit-refused i at (λ xs. settled-off (recorded xs) (recorded-settled xs) i at _ c.in-Off.ensures))
 
 pub returns-in-End : goal.returns-in-End
 returns-in-End c =
-    let asked = c in
-    let a = asked.args in
-    let i = a.input.now in
-    let e = line-none i a.at asked.next_line.result asked.next_line.ensures c.enum_told-in-End-1.given.1 in
-    rw c.refused-in-End.ensures (limit-refused i a.at (λ xs. e (recorded xs) ∙ ended-limit xs))
+    rw c.refused-in-End.ensures
+    (limit-refused c.args.input.now c.args.at (λ xs. c.in-End.ensures (recorded xs) ∙ ended-limit xs))

@@ -10,29 +10,6 @@ use Rattle.report.specs.Inner.{report_at, line_of}
 use Rattle.report.proofs.Inputs.{line_on, line-off, line-end, note-on}
 use Rattle.report.proofs.forms.next_line.Goals as goal
 
--- A line that ends: what is printed from the start on is what its form gives and what follows it.
-module _ (c : tie.Else1 invariant-loop decreases-loop) where
-  abbrev start : tie.Start invariant-loop decreases-loop
-  start = c.before.before.before.before.before
-
-  abbrev input : List ℕ
-  input = start.args.input.now
-
-  abbrev i : ℕ
-  i = c.before.before.before.loop.i
-
-  abbrev end : ℕ
-  end = c.before.find.result
-
-  ends : end < length input
-  ends = omega (arith, c.before.find.ensures.within, c.if1.false)
-
-  goes_on : (s : State)
-      → report_at s input start.args.at
-      ≡ reached_text s (line_of input i end)
-      ++ printed (turn_of (reached_state s (line_of input i end)) (form_of (line_of input i end))) (λ t. report_at t input (end + 1))
-  goes_on s = c.before.before.before.loop.invariant.2 s ∙ line_on input i s end c.before.find.ensures ends
-
 pub loop-i-init : goal.loop-i-init
 loop-i-init c = (omega arith, omega arith, λ s. refl)
 
@@ -55,20 +32,29 @@ is_note-requires c = tt
 
 pub returns-then-not-is_note : goal.returns-then-not-is_note
 returns-then-not-is_note c =
-    let line = c in
+    let input = c.args.input.now in
+    let i = c.loop-i.i in
+    let f = c.find-end in
+    let ends : f.result < length input = omega (arith, f.ensures.within, c.if-end-input.false) in
     record {
       after = omega arith;
-      order = line.find-end.ensures.from;
-      within = ends line;
+      order = f.ensures.from;
+      within = ends;
       no_note = sym c.is_note.ensures ∙ c.if-not-is_note.true;
-      goes_on = goes_on line;
+      goes_on = λ s. c.loop-i.invariant.2 s ∙ line_on input i s f.result f.ensures ends;
     }
 
 pub loop-i-preserved : goal.loop-i-preserved
 loop-i-preserved c =
-    let line = c in
-    let noted = sym c.is_note.ensures ∙ c.if-not-is_note.false in
-    (omega arith, omega arith, λ s. goes_on line s ∙ note-on (line_of (input line) (i line) (end line)) s _ noted)
+    let input = c.args.input.now in
+    let i = c.loop-i.i in
+    let f = c.find-end in
+    let ends : f.result < length input = omega (arith, f.ensures.within, c.if-end-input.false) in
+    let noted = sym c.is_note.ensures ∙ c.if-not-is_note.false in (
+      omega arith,
+      omega arith,
+      λ s. c.loop-i.invariant.2 s ∙ line_on input i s f.result f.ensures ends ∙ note-on (line_of input i f.result) s _ noted,
+    )
 
 pub returns : goal.returns
 returns c =

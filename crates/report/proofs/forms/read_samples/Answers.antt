@@ -7,6 +7,7 @@ use native.Mathlib.Omega.{arith}
 use lib.IntN.{ℤ}
 use lib.ListN.{take, drop, length-set}
 use mir.Facts.{to_z-of_z}
+use Rattle.text.specs.declared.words.Sample.TheVariants.{Value, Off}
 use Rattle.text.specs.Text.{sample_of}
 use Rattle.text.specs.Inner.{rest}
 use Rattle.text.proofs.Readings.{sample-known, sample-none, sample-in-range}
@@ -41,9 +42,8 @@ loop-at-preserved c =
     let text = start.args.text.now in
     let lp = looped.loop-at in
     let f = found.find-end in
-    let r = read.read_sample in
-    let x = c.x-1.given.0.0 in
-    let k = sample-known _ r.result x r.ensures c.x-1.given.1 in
+    let x = c.in-Value.x in
+    let k = sample-known _ (Value x) x c.in-Value.ensures refl in
     let fits = rw k.1 at (sample-in-range _ k.0) in
     let all = samples-on text lp.at f.result (omega arith) f.ensures k.0 in
     let later = map sample_of (rest 32 (drop f.result text)) in
@@ -65,7 +65,7 @@ returns-in-Off c =
     let text = looped.args.text.now in
     let lp = looped.loop-at in
     let f = found.find-end in
-    let none = sample-none _ read.read_sample.result read.read_sample.ensures c.enum_told-1.given.1 in
+    let none = sample-none _ Off c.in-Off.ensures refl in
     signal-bad _ (lp.invariant.3 ∙ samples-off text lp.at f.result (omega arith) f.ensures none)
 
 pub returns : goal.returns

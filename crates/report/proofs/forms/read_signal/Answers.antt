@@ -10,17 +10,6 @@ use Rattle.report.specs.Forms.{in_brackets}
 use Rattle.report.proofs.Layouts.{form-inside, form-outside, brackets, signal-off}
 use Rattle.report.proofs.forms.read_signal.Goals as goal
 
--- The line is in brackets, and so has two bytes or more.
-module _ (c : tie.Else1) where
-  abbrev line : List ℕ
-  line = c.before.before.before.args.line.now
-
-  is-in : in_brackets line ≡ true
-  is-in = sym c.before.in-brackets.ensures ∙ not-false _ c.if1.false
-
-  long : 2 ≤ length line
-  long = (brackets line is-in).long
-
 pub returns-then-not-in_brackets : goal.returns-then-not-in_brackets
 returns-then-not-in_brackets c =
     let start = c in
@@ -28,10 +17,10 @@ returns-then-not-in_brackets c =
     rw (form-outside start.args.line.now start.requires.1 out) signal-off
 
 pub overflow_sub-last : goal.overflow_sub-last
-overflow_sub-last c = omega (arith, long c)
+overflow_sub-last c = omega (arith, (brackets c.args.line.now (sym c.in_brackets.ensures ∙ c.if-not-in_brackets.false)).long)
 
 pub slice_bounds-signal_words-count : goal.slice_bounds-signal_words-count
-slice_bounds-signal_words-count c = omega (arith, long c)
+slice_bounds-signal_words-count c = omega (arith, (brackets c.args.line.now (sym c.in_brackets.ensures ∙ c.if-not-in_brackets.false)).long)
 
 pub signal_words-requires : goal.signal_words-requires
 signal_words-requires c =
@@ -41,7 +30,8 @@ signal_words-requires c =
 
 pub returns : goal.returns
 returns c =
-    let tested = c in
-    let start = tested in
-    let e : (length (line tested) - 1) - 1 ≡ length (line tested) - 2 = omega arith in
-    rw (form-inside (line tested) start.requires.1 (is-in tested)) (rw e at c.signal_words.ensures)
+    let line = c.args.line.now in
+    let is-in = sym c.in_brackets.ensures ∙ c.if-not-in_brackets.false in
+    let long = (brackets line is-in).long in
+    let e : (length line - 1) - 1 ≡ length line - 2 = omega arith in
+    rw (form-inside line c.requires.1 is-in) (rw e at c.signal_words.ensures)

@@ -7,6 +7,7 @@ use native.Mathlib.Omega.{arith}
 use lib.ListN.{take, drop}
 use Rattle.least.specs.Segmentation.{max_segments}
 use Rattle.weights.specs.Inner.{folded}
+use Rattle.text.specs.declared.words.Figure.TheVariants.{Value, Off}
 use Rattle.text.specs.Text.{value_of}
 use Rattle.text.specs.Inner.{rest}
 use Rattle.text.proofs.Readings.{figure-known, figure-none}
@@ -43,9 +44,8 @@ loop-at-preserved c =
     let text = at-loop.args.text.now in
     let lp = at-loop.loop-at in
     let f = at-find.find-end in
-    let r = at-read-figure.read_figure in
-    let x = at_x.x-1.given.0.0 in
-    let k = figure-known _ r.result x r.ensures at_x.x-1.given.1 in
+    let x = c.in-Value.x in
+    let k = figure-known _ (Value x) x c.in-Value.ensures refl in
     let kept = at-keep-weight.keep_weight-count in
     let all = figures-on text lp.at f.result (omega arith) f.ensures k.0 in
     let later = map value_of (rest 32 (drop f.result text)) in
@@ -65,8 +65,7 @@ returns-in-Off c =
     let text = at-loop.args.text.now in
     let lp = at-loop.loop-at in
     let f = at-find.find-end in
-    let r = c.read_figure in
-    let none = figure-none _ r.result r.ensures c.enum_told-1.given.1 in
+    let none = figure-none _ Off c.in-Off.ensures refl in
     weights-bad _ (lp.invariant.3 ∙ figures-off text lp.at f.result (omega arith) f.ensures none)
 
 pub returns : goal.returns

@@ -13,23 +13,17 @@ returns-then-refusal-ne0 c =
 pub returns-in-Path : goal.returns-in-Path
 returns-in-Path c =
     let a = c.args in
-    let r = c.look_ahead in
     let e = sym c.weights_judged-refusal.ensures ∙ c.if-refusal-ne0.false in
-    let path = ahead-path a.input.now a.next r.result r.ensures c.enum_told-1.given.1 in
-    taken a.weights.now a.limit a.input.now a.next e path c.requires
+    taken a.weights.now a.limit a.input.now a.next e c.in-Path.ensures c.requires
 
 pub returns-in-Line : goal.returns-in-Line
 returns-in-Line c =
     let a = c.args in
-    let r = c.look_ahead in
     let e = sym c.weights_judged-refusal.ensures ∙ c.if-refusal-ne0.false in
-    let line = ahead-line a.input.now a.next r.result r.ensures _ _ c.enum_told-in-Line-1.given.1 in
-    rw c.refused-in-Line.ensures (taken-line a.weights.now a.limit a.input.now a.next e _ _ line)
+    rw c.refused-in-Line.ensures (taken-line a.weights.now a.limit a.input.now a.next e _ _ c.in-Line.ensures)
 
 pub returns-in-Off : goal.returns-in-Off
 returns-in-Off c =
     let a = c.args in
-    let r = c.look_ahead in
     let e = sym c.weights_judged-refusal.ensures ∙ c.if-refusal-ne0.false in
-    let off = ahead-off a.input.now a.next r.result r.ensures c.enum_told-in-Off-1.given.1 in
-    rw c.refused-in-Off.ensures (taken-off a.weights.now a.limit a.input.now a.next e off)
+    rw c.refused-in-Off.ensures (taken-off a.weights.now a.limit a.input.now a.next e c.in-Off.ensures)
