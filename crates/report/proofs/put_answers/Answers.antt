@@ -11,44 +11,27 @@ use Rattle.report.proofs.put_answers.Goals as goal
 
 pub loop-p-init : goal.loop-p-init
 loop-p-init c =
-    let start = c in
-    (start.requires.1.1.0, refl, start.requires.1.1.1.0, answered-none (omega (arith, start.requires.1)))
+    let fit = c.requires.input_len_bound.1 in
+    (fit.0, refl, fit.1.0, answered-none (omega (arith, fit)))
 
 pub next_penalty-requires : goal.next_penalty-requires
-next_penalty-requires c =
-    let start = c in
-    (start.requires.1.0, c.loop-p.invariant.0)
+next_penalty-requires c = (c.requires.input_len_bound.0, c.loop-p.invariant.0)
 
 pub put_answer-length-requires : goal.put_answer-length-requires
 put_answer-length-requires c =
-    let ahead : PenaltyAhead c.args.input.now c.loop-p.line c.p-1.given.0.0 c.p-1.given.0.1.0 c.p-1.given.0.1.1.0 = let asked = c in
     let lp = c.loop-p in
-    let a = c.args in
-    next-at a.input.now lp.line asked.next_penalty.result asked.next_penalty.ensures _ _ _ c.p-1.given.1 in
-    let known = c in
-    let lp = c.loop-p in
-    let start = c in
-    let n = ahead in
-    (start.requires.0, omega (arith, n.long, n.within, start.requires.1, lp.invariant.1, lp.invariant.2))
+    let n = c.in-At.ensures in
+    record {
+      answering = c.requires.answering;
+      line_len_in_bounds = omega (arith, n.long, n.within, c.requires.input_len_bound, lp.invariant.1, lp.invariant.2);
+    }
 
 pub loop-p-smaller : goal.loop-p-smaller
-loop-p-smaller c =
-    let ahead : PenaltyAhead c.args.input.now c.loop-p.line c.p-1.given.0.0 c.p-1.given.0.1.0 c.p-1.given.0.1.1.0 = let asked = c in
-    let lp = c.loop-p in
-    let a = c.args in
-    next-at a.input.now lp.line asked.next_penalty.result asked.next_penalty.ensures _ _ _ c.p-1.given.1 in
-    let known = c in
-    let n = ahead in
-    omega (arith, n.long, n.within)
+loop-p-smaller c = omega (arith, c.in-At.ensures.long, c.in-At.ensures.within)
 
 pub loop-p-preserved : goal.loop-p-preserved
 loop-p-preserved c =
-    let ahead : PenaltyAhead c.args.input.now c.loop-p.line c.p-1.given.0.0 c.p-1.given.0.1.0 c.p-1.given.0.1.1.0 = let asked = c in
-    let lp = c.loop-p in
-    let a = c.args in
-    next-at a.input.now lp.line asked.next_penalty.result asked.next_penalty.ensures _ _ _ c.p-1.given.1 in
-    let known = c in
-    let n = ahead in
+    let n = c.in-At.ensures in
     let lp = c.loop-p in
     let u = c.put_answer-length in (
       n.within,
@@ -59,28 +42,11 @@ loop-p-preserved c =
 
 pub put_refusal-requires : goal.put_refusal-requires
 put_refusal-requires c =
-    let looped = c in
-    let start = c in
-    let lp = looped.loop-p in
-    omega (arith, refusal-few 11 (omega arith), start.requires.1, lp.invariant.0, lp.invariant.1, lp.invariant.2)
+    let lp = c.loop-p in
+    omega (arith, refusal-few 11 (omega arith), c.requires.input_len_bound, lp.invariant.0, lp.invariant.1, lp.invariant.2)
 
 pub returns-in-Off : goal.returns-in-Off
-returns-in-Off c =
-    let known = c in
-    let asked = c in
-    let looped = c in
-    let a = c.args in
-    let lp = looped.loop-p in
-    let r = asked.next_penalty in
-    let bad = next-bad a.input.now lp.line r.result r.ensures known.enum_told-1.given.1 a.samples.now in
-    answered-bad lp.invariant.3 bad c.put_refusal.ensures
+returns-in-Off c = answered-bad c.loop-p.invariant.3 (c.in-Off.ensures c.args.samples.now) c.put_refusal.ensures
 
 pub returns-in-End : goal.returns-in-End
-returns-in-End c =
-    let asked = c in
-    let looped = c in
-    let a = c.args in
-    let lp = looped.loop-p in
-    let r = asked.next_penalty in
-    let none = next-none a.input.now lp.line r.result r.ensures c.enum_told-in-End-1.given.1 a.samples.now in
-    answered-end lp.invariant.3 none
+returns-in-End c = answered-end c.loop-p.invariant.3 (c.in-End.ensures c.args.samples.now)

@@ -20,51 +20,6 @@ use Rattle.report.specs.Inner.{PathFrom, Answering, report_at}
 use Rattle.report.proofs.Wholes.{line-short, path-from, answering as may-answer-from}
 use Rattle.report.proofs.put_signal.Goals as goal
 
--- The path that was made, its line, and what the answers need.
-module _ (c : tie.After-make-path) where
-  abbrev start : tie.Start
-  start = c.before.before.before.before.before.before.before.before
-
-  abbrev samples : List ℤ
-  samples = start.args.samples.now
-
-  abbrev made : PathBuffers
-  made =
-      let l = c.make-path.new.1.1.1.1 in
-      path_buffers (lists l.0 l.1.0 l.1.1.0) l.1.1.1.0
-
-  abbrev ws : List ℕ
-  ws = start.args.weights.now
-
-  abbrev given : Bool
-  given = leb 1 (length ws)
-
-  abbrev entries : ℕ
-  entries = c.make-path.result
-
-  is-path : path_of made.lists entries ≡ report_path samples start.args.max-segments ws
-  is-path =
-      let limit = start.args.max-segments in
-      solved-path samples limit 1 ws _ made entries c.make-path.ensures ∙ ap (signal_path samples 1 ws) (all-sizes samples limit)
-
-  made-path : path_line given (path_of made.lists entries) ≡ path_text samples start.args.max-segments ws
-  made-path = ap (path_line given) is-path
-
-  short : length (path_line given (path_of made.lists entries)) ≤ 2500
-  short =
-      let a = start.args in
-      line-short samples a.max-segments ws _ made entries c.make-path.ensures a.input.now a.from _ start.pre given
-
-  may-print : PathFrom given made.lists entries (length start.args.output.now)
-  may-print =
-      let a = start.args in
-      path-from samples a.max-segments ws _ made entries c.make-path.ensures a.input.now a.from _ start.pre given
-
-  may-answer : (count : ℕ) → count ≡ min start.args.max-segments (length samples) → Answering samples count made entries
-  may-answer =
-      let a = start.args in
-      may-answer-from samples a.max-segments ws _ made entries c.make-path.ensures a.input.now a.from _ start.pre
-
 pub make_path-entries-requires : goal.make_path-entries-requires
 make_path-entries-requires c =
     let p = c.requires in
@@ -83,27 +38,45 @@ make_path-entries-requires c =
 
 pub put_path-length-requires : goal.put_path-length-requires
 put_path-length-requires c =
-    let solved = c in
-    may-print solved
+    let a = c.args in
+    let new = c.make_path-entries.new in
+    let made = path_buffers (lists new.path_sizes new.path_losses new.path_weights) new.scratch in
+    let entries = c.make_path-entries.result in
+    let e = c.make_path-entries.ensures in
+    path-from a.samples.now a.max_segments a.weights.now _ made entries e a.input.now a.from _ c.requires (leb 1 (length a.weights.now))
 
 pub put_answers-requires : goal.put_answers-requires
 put_answers-requires c =
-    let counted = c in
-    let line = c in
-    let solved = c in
-    let p = (start solved).requires in
-    let l = line.put_path-length in (
-      may-answer solved counted.smaller-count.result counted.smaller-count.ensures,
-      (p.input_short, (p.within, (omega (arith, short solved, l.ensures.end_is), omega (arith, l.auto, p.room_long)))),
-    )
+    let a = c.args in
+    let new = c.make_path-entries.new in
+    let made = path_buffers (lists new.path_sizes new.path_losses new.path_weights) new.scratch in
+    let entries = c.make_path-entries.result in
+    let e = c.make_path-entries.ensures in
+    let p = c.requires in
+    let given = leb 1 (length a.weights.now) in
+    let short = line-short a.samples.now a.max_segments a.weights.now _ made entries e a.input.now a.from _ p given in
+    let answer = may-answer-from a.samples.now a.max_segments a.weights.now _ made entries e a.input.now a.from _ p in
+    let l = c.put_path-length in
+    record {
+      answering = answer c.smaller-count.result c.smaller-count.ensures;
+      input_len_bound = (p.input_short, (p.within, (omega (arith, short, l.ensures.end_is), omega (arith, l.auto, p.room_long))));
+    }
 
 pub returns : goal.returns
 returns c =
-    let counted = c in
-    let line = c in
-    let solved = c in
-    let a = (start solved).args in
-    let path = path_text (samples solved) a.max-segments (ws solved) in
-    let answers = report_at (answering (samples solved) a.max-segments (ws solved)) a.input.now a.from in
-    let put = c.put_answers.ensures a.max-segments (ws solved) (sym (is-path solved)) in
-    put_then {t = path} {u = answers} (put_as (made-path solved) line.put_path-length.ensures) put
+    let a = c.args in
+    let new = c.make_path-entries.new in
+    let made = path_buffers (lists new.path_sizes new.path_losses new.path_weights) new.scratch in
+    let entries = c.make_path-entries.result in
+    let e = c.make_path-entries.ensures in
+    let xs = a.samples.now in
+    let limit = a.max_segments in
+    let ws = a.weights.now in
+    let given = leb 1 (length ws) in
+    let is-path : path_of made.lists entries ≡ report_path xs limit ws
+    = solved-path xs limit 1 ws _ made entries e ∙ ap (signal_path xs 1 ws) (all-sizes xs limit) in
+    let path = path_text xs limit ws in
+    let made-path : path_line given (path_of made.lists entries) ≡ path = ap (path_line given) is-path in
+    let answers = report_at (answering xs limit ws) a.input.now a.from in
+    let put = c.put_answers.ensures limit ws (sym is-path) in
+    put_then {t = path} {u = answers} (put_as made-path c.put_path-length.ensures) put
