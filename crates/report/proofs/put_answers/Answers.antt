@@ -1,11 +1,8 @@
 -- `report::put_answers` answers penalty after penalty. The loop's invariant: the lines up to the present one are answered, and at most
 -- 75 bytes are written for each byte of them.
 use mathlib.Core.Path.{refl}
-use Prim.Native.Nat.{◌-◌}
 use native.Mathlib.Omega.{arith}
-use Rattle.report.specs.Inner.{PenaltyAhead}
 use Rattle.report.proofs.Lengths.{refusal-few}
-use Rattle.report.proofs.Replies.{next-at, next-bad, next-none}
 use Rattle.report.proofs.Replies.{answered-none, answered-more, answered-bad, answered-end}
 use Rattle.report.proofs.put_answers.Goals as goal
 

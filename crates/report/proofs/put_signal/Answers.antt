@@ -1,14 +1,10 @@
 -- `report::put_signal` makes the signal's path and table, puts the path line, and answers the penalties from both.
 use mathlib.Core.Path.{◌≡◌, sym, ap, ◌∙◌}
-use mathlib.Core.Bool.{Bool}
-use mathlib.Core.List.{List}
-use Prim.Native.Nat.{ℕ, ◌≤◌, min}
 use native.Mathlib.Omega.{arith}
-use lib.IntN.{ℤ}
 use lib.ListN.{length}
 use lib.Dec.{leb}
 use Rattle.path.specs.Model.{lists, path_of}
-use Rattle.signal.specs.SignalPath.{PathBuffers, path_buffers}
+use Rattle.signal.specs.SignalPath.{path_buffers}
 use Rattle.weights.proofs.Steps.{weighs-fewer}
 use Rattle.signal.specs.Signal.{size_count, signal_path}
 use Rattle.signal.proofs.Paths.{all-sizes}
@@ -16,7 +12,7 @@ use Rattle.signal.proofs.Cases.{solved-path}
 use Rattle.text.proofs.Prints.{put_then, put_as}
 use Rattle.report.specs.Lines.{path_line}
 use Rattle.report.specs.Report.{answering, report_path, path_text}
-use Rattle.report.specs.Inner.{PathFrom, Answering, report_at}
+use Rattle.report.specs.Inner.{report_at}
 use Rattle.report.proofs.Wholes.{line-short, path-from, answering as may-answer-from}
 use Rattle.report.proofs.put_signal.Goals as goal
 

@@ -1,12 +1,8 @@
 -- `report::forms::find_limit` takes the next line and reads it as a limit form; whatever else is found is refused.
 use mathlib.Core.Path.{◌∙◌}
-use mathlib.Core.List.{List}
-use Prim.Native.Nat.{ℕ}
 use native.Mathlib.Omega.{arith}
 use Rattle.report.specs.Report.{recorded}
-use Rattle.report.specs.Inner.{NextLine}
-use Rattle.report.proofs.Layouts.{limit_is, limit-is-not}
-use Rattle.report.proofs.Turns.{line_at, line-unended, line-none, limit-refused, limit-stops, limit-found, ended-limit, settled-off, recorded-settled}
+use Rattle.report.proofs.Turns.{limit-refused, limit-stops, limit-found, ended-limit, settled-off, recorded-settled}
 use Rattle.report.proofs.forms.find_limit.Goals as goal
 
 pub slice_bounds-read_limit-count : goal.slice_bounds-read_limit-count

@@ -1,13 +1,9 @@
 -- `report::forms::find_signal` takes the next line and reads it as a record form; whatever else is found is refused.
 use mathlib.Core.Path.{◌∙◌}
-use mathlib.Core.List.{List}
-use Prim.Native.Nat.{ℕ}
 use native.Mathlib.Omega.{arith}
 use lib.ListN.{length-take, length-drop}
 use Rattle.report.specs.Report.{start}
-use Rattle.report.specs.Inner.{NextLine}
-use Rattle.report.proofs.Layouts.{signal-is, signal-is-not}
-use Rattle.report.proofs.Turns.{line_at, line-unended, line-none, signal-refused, signal-stops, signal-found, ended-signal, settled-off, start-settled}
+use Rattle.report.proofs.Turns.{signal-refused, signal-stops, signal-found, ended-signal, settled-off, start-settled}
 use Rattle.report.proofs.forms.find_signal.Goals as goal
 
 pub slice_bounds-read_signal-count : goal.slice_bounds-read_signal-count

@@ -1,12 +1,8 @@
 -- `report::forms::find_weights` looks at what comes next, and reads a line that opens so as a weights form.
 use mathlib.Core.Path.{sym}
-use mathlib.Core.List.{List}
-use Prim.Native.Nat.{ℕ}
 use native.Mathlib.Omega.{arith}
 use lib.Seq.{length-take-le}
-use Rattle.report.specs.Inner.{LineAhead}
-use Rattle.report.proofs.Layouts.{weights-is, weights-is-not}
-use Rattle.report.proofs.Weighing.{ahead-path, ahead-line, ahead-off, found_none, found-not, found-line, found-other}
+use Rattle.report.proofs.Weighing.{found_none, found-not, found-line, found-other}
 use Rattle.report.proofs.forms.find_weights.Goals as goal
 
 pub slice_bounds-weights_line-count : goal.slice_bounds-weights_line-count

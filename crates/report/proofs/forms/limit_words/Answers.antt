@@ -1,15 +1,14 @@
 -- `report::forms::limit_words` compares the first word and reads the one after it as a figure, if no other follows.
 use mathlib.Core.Bool.{true}
 use mathlib.Core.Path.{◌≡◌, sym, ◌∙◌}
-use mathlib.Core.List.{List, ◌∷◌}
+use mathlib.Core.List.{List}
 use Prim.Native.Nat.{ℕ}
 use native.Mathlib.Omega.{arith}
 use lib.ListN.{take, drop}
 use lib.Seq.{length-take-le}
-use borrow.Author.Tests.{not-false}
 use Rattle.text.specs.Text.{bytes, same, parts_of}
 use Rattle.text.specs.Inner.{Found, rest}
-use Rattle.text.proofs.Searches.{between, first_part, next-part, rest-none, rest_some}
+use Rattle.text.proofs.Searches.{first_part, next-part, rest-none, rest_some}
 use Rattle.report.specs.Forms.{limit_form, words_form}
 use Rattle.report.proofs.Layouts.{limit-other, limit-words, limit-none, limit-many, limit-one, limit-off}
 use Rattle.report.proofs.forms.limit_words.Goals as goal

@@ -1,12 +1,10 @@
 -- `report::forms::look_ahead` takes the next line and tests how it opens.
 use mathlib.Core.Path.{sym, ◌∙◌}
-use mathlib.Core.List.{List}
 use native.Mathlib.Omega.{arith}
-use Prim.Native.Nat.{ℕ, ◌-◌}
+use Prim.Native.Nat.{◌-◌}
 use lib.ListN.{length, drop, length-drop}
 use lib.Seq.{take_all}
-use Rattle.report.specs.Inner.{NextLine, Unended}
-use Rattle.report.proofs.Turns.{line_at, line-unended, line-none, path-by-line, path-by-unended, path-by-end, line-ahead, unended-ahead}
+use Rattle.report.proofs.Turns.{path-by-line, path-by-unended, path-by-end, line-ahead, unended-ahead}
 use Rattle.report.proofs.forms.look_ahead.Goals as goal
 
 pub slice_bounds-waits-count : goal.slice_bounds-waits-count

@@ -1,12 +1,9 @@
 -- `report::forms::next_line` passes over notes. The loop's invariant: what is printed from the start on is what is printed from i on.
-use mathlib.Core.Path.{◌≡◌, refl, sym, ◌∙◌}
-use mathlib.Core.List.{List, ◌++◌}
-use Prim.Native.Nat.{ℕ, ◌+◌, ◌-◌, ◌<◌}
+use mathlib.Core.Path.{refl, sym, ◌∙◌}
+use Prim.Native.Nat.{◌<◌}
 use native.Mathlib.Omega.{arith}
 use lib.ListN.{length}
-use Rattle.report.specs.Forms.{form_of}
-use Rattle.report.specs.Report.{State, turn_of, reached_text, reached_state, printed}
-use Rattle.report.specs.Inner.{report_at, line_of}
+use Rattle.report.specs.Inner.{line_of}
 use Rattle.report.proofs.Inputs.{line_on, line-off, line-end, note-on}
 use Rattle.report.proofs.forms.next_line.Goals as goal
 

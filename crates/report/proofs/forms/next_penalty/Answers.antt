@@ -1,12 +1,8 @@
 -- `report::forms::next_penalty` takes the next line and reads it as a price form.
 use mathlib.Core.Path.{◌∙◌}
-use mathlib.Core.List.{List}
-use Prim.Native.Nat.{ℕ}
 use native.Mathlib.Omega.{arith}
 use Rattle.report.specs.Report.{answering}
-use Rattle.report.specs.Inner.{NextLine}
-use Rattle.report.proofs.Layouts.{penalty-is, penalty-is-not}
-use Rattle.report.proofs.Turns.{line_at, line-unended, line-none, penalty-stops, penalty-found, ended-penalty, settled-off, answering-settled}
+use Rattle.report.proofs.Turns.{penalty-stops, penalty-found, ended-penalty, settled-off, answering-settled}
 use Rattle.report.proofs.forms.next_penalty.Goals as goal
 
 pub slice_bounds-read_penalty-count : goal.slice_bounds-read_penalty-count

@@ -2,15 +2,14 @@
 -- has at least 9 bytes inside its brackets: its word, two blanks and two digits.
 use mathlib.Core.Path.{◌≡◌, sym, ◌∙◌, ap}
 use mathlib.Core.Bool.{true}
-use mathlib.Core.List.{List, ◌∷◌}
+use mathlib.Core.List.{List}
 use Prim.Native.Nat.{ℕ, ◌+◌, ◌-◌}
 use native.Mathlib.Omega.{arith}
 use lib.ListN.{length, take, drop, length-take}
 use lib.Seq.{length-take-le}
-use borrow.Author.Tests.{not-false}
 use Rattle.text.specs.Text.{bytes, same, parts_of}
 use Rattle.text.specs.Inner.{Found, rest}
-use Rattle.text.proofs.Searches.{between, first_part, next-part, rest-none, rest_some}
+use Rattle.text.proofs.Searches.{first_part, next-part, rest-none, rest_some}
 use Rattle.text.proofs.Values.{figure-parts}
 use Rattle.text.proofs.Parts.{same-eq}
 use Rattle.report.specs.Forms.{penalty_form, words_form}

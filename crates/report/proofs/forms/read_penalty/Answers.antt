@@ -1,12 +1,8 @@
 -- `report::forms::read_penalty` looks for the brackets and reads the words inside them as a price form.
 use mathlib.Core.Path.{◌≡◌, sym, ◌∙◌}
-use mathlib.Core.Bool.{true}
-use mathlib.Core.List.{List}
-use Prim.Native.Nat.{ℕ, ◌-◌, ◌≤◌}
+use Prim.Native.Nat.{◌-◌}
 use native.Mathlib.Omega.{arith}
 use lib.ListN.{length, take, drop, length-take, length-drop}
-use borrow.Author.Tests.{not-false}
-use Rattle.report.specs.Forms.{in_brackets}
 use Rattle.report.proofs.Layouts.{form-inside, form-outside, brackets, penalty-off}
 use Rattle.report.proofs.forms.read_penalty.Goals as goal
 

@@ -1,6 +1,6 @@
 -- `report::forms::take_weights` judges the weights, and looks at what comes next.
 use mathlib.Core.Path.{sym, ◌∙◌}
-use Rattle.report.proofs.Weighing.{ahead-path, ahead-line, ahead-off, taken_refused, taken, taken-off, taken-line}
+use Rattle.report.proofs.Weighing.{taken_refused, taken, taken-off, taken-line}
 use Rattle.report.proofs.forms.take_weights.Goals as goal
 
 pub returns-then-refusal-ne0 : goal.returns-then-refusal-ne0

@@ -1,12 +1,8 @@
 -- `report::forms::weights_line` looks for the brackets and reads the words inside them as a weights form.
 use mathlib.Core.Path.{◌≡◌, sym, ◌∙◌}
-use mathlib.Core.Bool.{true}
-use mathlib.Core.List.{List}
-use Prim.Native.Nat.{ℕ, ◌-◌, ◌≤◌}
+use Prim.Native.Nat.{◌-◌}
 use native.Mathlib.Omega.{arith}
 use lib.ListN.{length}
-use borrow.Author.Tests.{not-false}
-use Rattle.report.specs.Forms.{in_brackets}
 use Rattle.report.proofs.Layouts.{form-inside, form-outside, brackets, weights-off}
 use Rattle.report.proofs.forms.weights_line.Goals as goal
 

@@ -1,6 +1,5 @@
 -- `report::lines::put_entries` puts entry after entry. The loop's invariant: the text of the first i entries lies over the output.
 use mathlib.Core.Path.{◌≡◌, refl, sym}
-use Prim.Native.Nat.{◌-◌}
 use native.Mathlib.Omega.{arith}
 use lib.ListN.{length}
 use Rattle.path.specs.Model.{lists, path_of}

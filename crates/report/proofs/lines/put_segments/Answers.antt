@@ -2,11 +2,10 @@
 -- output, and has at most 25 bytes for each.
 use mathlib.Core.Path.{◌≡◌, refl, sym}
 use mathlib.Core.List.{List}
-use Prim.Native.Nat.{ℕ, ◌+◌, ◌-◌, ◌≤◌, ◌<◌}
+use Prim.Native.Nat.{ℕ, ◌+◌, ◌≤◌, ◌<◌}
 use native.Mathlib.Omega.{arith}
 use lib.IntN.{ℤ, pos}
 use lib.ListN.{length, get_or, length-append}
-use mir.Syntax.{w16}
 use lib.Signed.{mag}
 use mir.Facts.{to_z-of_z}
 use Rattle.text.proofs.Prints.{put_then, put_as, put-nothing}
