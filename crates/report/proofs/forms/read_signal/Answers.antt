@@ -1,0 +1,33 @@
+-- `report::forms::read_signal` looks for the brackets and reads the words inside them as a record form.
+use mathlib.Core.Path.{◌≡◌, sym, ◌∙◌}
+use Prim.Native.Nat.{◌-◌}
+use native.Mathlib.Omega.{arith}
+use lib.ListN.{length, drop, length-take, length-drop}
+use Rattle.report.proofs.Layouts.{form-inside, form-outside, brackets, signal-off}
+use Rattle.report.proofs.forms.read_signal.Goals as goal
+
+pub returns-then-not-in_brackets : goal.returns-then-not-in_brackets
+returns-then-not-in_brackets c =
+    let start = c in
+    let out = sym c.in_brackets.ensures ∙ c.if-not-in_brackets.true in
+    rw (form-outside start.args.line.now start.requires.1 out) signal-off
+
+pub overflow_sub-last : goal.overflow_sub-last
+overflow_sub-last c = omega (arith, (brackets c.args.line.now (sym c.in_brackets.ensures ∙ c.if-not-in_brackets.false)).long)
+
+pub slice_bounds-signal_words-count : goal.slice_bounds-signal_words-count
+slice_bounds-signal_words-count c = omega (arith, (brackets c.args.line.now (sym c.in_brackets.ensures ∙ c.if-not-in_brackets.false)).long)
+
+pub signal_words-requires : goal.signal_words-requires
+signal_words-requires c =
+    let start = c in
+    let l = start.args.line.now in
+    omega (arith, start.requires.0, length-take ((length l - 1) - 1) (drop 1 l), length-drop 1 l)
+
+pub returns : goal.returns
+returns c =
+    let line = c.args.line.now in
+    let is-in = sym c.in_brackets.ensures ∙ c.if-not-in_brackets.false in
+    let long = (brackets line is-in).long in
+    let e : (length line - 1) - 1 ≡ length line - 2 = omega arith in
+    rw (form-inside line c.requires.1 is-in) (rw e at c.signal_words.ensures)
