@@ -1,7 +1,7 @@
 -- Sizes that are their own weights. A list lent without weights before there were any is such a list now, and everything is as it was:
 -- ranges, order and checks look at sizes and losses alone, breakpoints divide by differences of sizes, a cost counts sizes, and what calls
 -- leave has its sizes as weights again. A call on a signal that is lent the sizes as weights does what it does without weights.
-use Rattle.std.specs.Prelude.{◌≡◌, Bool, ◌&&◌, List, [], ◌∷◌, ℕ, zero, suc, ◌+◌, ◌*◌, ◌-◌, ltb, leb, ℤ}
+use Rattle.std.specs.Prelude.{◌≡◌, ◌&&◌, List, [], ◌∷◌, ℕ, zero, suc, ◌+◌, ◌*◌, ◌-◌, ltb, leb, ℤ}
 use Rattle.coding.specs.Coding.{unsigneds}
 use Rattle.path.specs.Model.{Model, Lists}
 use Rattle.path.specs.Update.{fraction, breakpoint}
