@@ -1,6 +1,8 @@
 // The calls on streaming signals over byte strings. Samples and levels are two bytes each with a sign, starts, sizes and weights
 // two without one, losses eight, all with the low byte first. The table is handed on as it is.
 
+#![tactic(auto)]
+
 ghost use Rattle.std.specs.Prelude.{◌≡◌, length};
 ghost use Rattle.coding.specs.Coding.{outcome};
 ghost use Rattle.path.specs.Model.{lists};
