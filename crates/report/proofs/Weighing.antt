@@ -22,23 +22,10 @@ use Rattle.weights.proofs.Folds.{folded-few, folded-checks}
 use Rattle.report.specs.Forms.{weights, form_of}
 use Rattle.report.specs.Lines.{refusal_line}
 use Rattle.report.specs.Report.{limited, Turn, goes, stops, form_checks, weights_turn, printed}
-use Rattle.report.specs.Inner.{report_at, line_of, PathAhead, LineAhead, AheadRead, WeightsAre, WeightsTaken, WeightsFound, refused_with}
+use Rattle.report.specs.Inner.{report_at, line_of, PathAhead, LineAhead, WeightsAre, WeightsTaken, WeightsFound, refused_with}
 use Rattle.report.specs.declared.forms.FormFound.{FormFound}
-use Rattle.report.specs.declared.forms.Ahead.{Ahead}
-use Rattle.report.specs.declared.forms.Ahead.TheVariants as ahead
 use Rattle.report.proofs.Layouts.{any-stops}
 use Rattle.report.proofs.Turns.{stopped}
-
--- What the answer on what comes next says.
-module _ (input : List ℕ) (at : ℕ) (r : Ahead) (h : AheadRead input at r) where
-  pub ahead-path : r ≡ ahead.Path → PathAhead input at
-  ahead-path e = rw e at h
-
-  pub ahead-line : (from to : ℕ) → r ≡ ahead.Line from to → LineAhead input at from to
-  ahead-line from to e = rw e at h
-
-  pub ahead-off : r ≡ ahead.Off → (xs : List ℤ) (k : ℕ) (ws : List ℕ) → report_at (limited xs k ws) input at ≡ refusal_line 11
-  ahead-off e = rw e at h
 
 -- The checks of a form without weights, and of one with weights.
 module _ (ws : List ℕ) (k : ℕ) where

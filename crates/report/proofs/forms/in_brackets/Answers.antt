@@ -11,6 +11,4 @@ pub returns-then-line-ne40 : goal.returns-then-line-ne40
 returns-then-line-ne40 c = simp (le-leb 2 _ c.if-line-lt2.false, ne_eqb _ 40 c.if-line-ne40.true)
 
 pub returns : goal.returns
-returns c =
-    let long = c in
-    brackets-last long.args.line.now long.if-line-lt2.false c.if-line-ne40.false
+returns c = brackets-last c.args.line.now c.if-line-lt2.false c.if-line-ne40.false

@@ -10,9 +10,8 @@ returns-then-limit-lt1 c =
 
 pub returns-then-limit : goal.returns-then-limit
 returns-then-limit c =
-    let some = c in
-    let a = some.args in
-    c.refused-then-limit.ensures ∙ limit-over a.limit a.end some.if-limit-lt1.false c.if-limit.true
+    let a = c.args in
+    c.refused-then-limit.ensures ∙ limit-over a.limit a.end c.if-limit-lt1.false c.if-limit.true
 
 pub returns : goal.returns
 returns c =

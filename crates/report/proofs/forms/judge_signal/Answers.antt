@@ -10,9 +10,8 @@ returns-then-count-lt1 c =
 
 pub returns-then-count-gt-MAX_SAMPLES : goal.returns-then-count-gt-MAX_SAMPLES
 returns-then-count-gt-MAX_SAMPLES c =
-    let some = c in
-    let a = some.args in
-    c.refused-then-count-gt-MAX_SAMPLES.ensures ∙ signal-many a.count a.end some.if-count-lt1.false c.if-count-gt-MAX_SAMPLES.true
+    let a = c.args in
+    c.refused-then-count-gt-MAX_SAMPLES.ensures ∙ signal-many a.count a.end c.if-count-lt1.false c.if-count-gt-MAX_SAMPLES.true
 
 pub returns : goal.returns
 returns c =

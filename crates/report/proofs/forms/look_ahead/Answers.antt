@@ -11,8 +11,7 @@ pub slice_bounds-waits-count : goal.slice_bounds-waits-count
 slice_bounds-waits-count c = c.in-At.ensures.order
 
 pub returns-then-waits : goal.returns-then-waits
-returns-then-waits c =
-    line-ahead c.args.input.now c.args.at _ _ c.in-At.ensures (sym c.waits.ensures ∙ c.if-waits.true)
+returns-then-waits c = line-ahead c.args.input.now c.args.at _ _ c.in-At.ensures (sym c.waits.ensures ∙ c.if-waits.true)
 
 pub slice_bounds-waits-count-in-Off : goal.slice_bounds-waits-count-in-Off
 slice_bounds-waits-count-in-Off c = c.in-Off.ensures.within

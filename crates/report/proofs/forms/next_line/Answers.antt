@@ -12,10 +12,9 @@ loop-i-init c = (omega arith, omega arith, λ s. refl)
 
 pub returns-then-end-input : goal.returns-then-end-input
 returns-then-end-input c =
-    let found = c in
-    let lp = found.loop-i in
-    let a = found.args in
-    let f = found.find-end in
+    let lp = c.loop-i in
+    let a = c.args in
+    let f = c.find-end in
     record {
       within = lp.invariant.1;
       goes_on = λ s. lp.invariant.2 s ∙ line-off a.input.now lp.i s f.result f.ensures (omega arith) c.if-end-input.true;

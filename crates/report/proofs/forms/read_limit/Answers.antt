@@ -8,9 +8,8 @@ use Rattle.report.proofs.forms.read_limit.Goals as goal
 
 pub returns-then-not-in_brackets : goal.returns-then-not-in_brackets
 returns-then-not-in_brackets c =
-    let start = c in
     let out = sym c.in_brackets.ensures ∙ c.if-not-in_brackets.true in
-    λ xs. rw (form-outside start.args.line.now start.requires out) (limit-off xs)
+    λ xs. rw (form-outside c.args.line.now c.requires out) (limit-off xs)
 
 pub overflow_sub-last : goal.overflow_sub-last
 overflow_sub-last c = omega (arith, (brackets c.args.line.now (sym c.in_brackets.ensures ∙ c.if-not-in_brackets.false)).long)

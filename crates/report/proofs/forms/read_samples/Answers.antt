@@ -23,24 +23,16 @@ pub read_sample-requires : goal.read_sample-requires
 read_sample-requires c = tt
 
 pub bounds-samples-count : goal.bounds-samples-count
-bounds-samples-count c =
-    let start = c in
-    omega arith
+bounds-samples-count c = omega arith
 
 pub loop-at-smaller : goal.loop-at-smaller
-loop-at-smaller c =
-    let found = c in
-    omega (arith, found.find-end.ensures.from, found.find-end.ensures.within)
+loop-at-smaller c = omega (arith, c.find-end.ensures.from, c.find-end.ensures.within)
 
 pub loop-at-preserved : goal.loop-at-preserved
 loop-at-preserved c =
-    let read = c in
-    let found = read in
-    let looped = found in
-    let start = looped in
-    let text = start.args.text.now in
-    let lp = looped.loop-at in
-    let f = found.find-end in
+    let text = c.args.text.now in
+    let lp = c.loop-at in
+    let f = c.find-end in
     let x = c.in-Value.x in
     let k = sample-known _ (Value x) x c.in-Value.ensures refl in
     let fits = rw k.1 at (sample-in-range _ k.0) in
@@ -48,7 +40,7 @@ loop-at-preserved c =
     let later = map sample_of (rest 32 (drop f.result text)) in
     let values : map sample_of (rest 32 (drop lp.at text)) ≡ x ∷ later
     = values-on text lp.at f.result (omega arith) f.ensures ∙ rw k.1 refl in
-    let stored = value-stored lp.samples lp.count x later (omega (arith, start.requires)) in (
+    let stored = value-stored lp.samples lp.count x later (omega (arith, c.requires)) in (
       f.ensures.within,
       omega (arith, f.ensures.from),
       simp length-set lp.invariant.2,
@@ -58,20 +50,15 @@ loop-at-preserved c =
 
 pub returns-in-Off : goal.returns-in-Off
 returns-in-Off c =
-    let read = c in
-    let found = read in
-    let looped = found in
-    let text = looped.args.text.now in
-    let lp = looped.loop-at in
-    let f = found.find-end in
+    let text = c.args.text.now in
+    let lp = c.loop-at in
+    let f = c.find-end in
     let none = sample-none _ Off c.in-Off.ensures refl in
     signal-bad _ (lp.invariant.3 ∙ samples-off text lp.at f.result (omega arith) f.ensures none)
 
 pub returns : goal.returns
 returns c =
-    let looped = c in
-    let start = looped in
-    let lp = looped.loop-at in
-    let d = samples-done start.args.text.now lp.at (omega arith) in
+    let lp = c.loop-at in
+    let d = samples-done c.args.text.now lp.at (omega arith) in
     let values = lp.invariant.4 ∙ ap (λ m. take lp.count lp.samples ++ m) d.1 ∙ append-nil _ in
-    (signal-good _ _ (lp.invariant.3 ∙ d.0) values, omega (arith, start.requires))
+    (signal-good _ _ (lp.invariant.3 ∙ d.0) values, omega (arith, c.requires))

@@ -8,9 +8,8 @@ use Rattle.report.proofs.forms.read_signal.Goals as goal
 
 pub returns-then-not-in_brackets : goal.returns-then-not-in_brackets
 returns-then-not-in_brackets c =
-    let start = c in
     let out = sym c.in_brackets.ensures ∙ c.if-not-in_brackets.true in
-    rw (form-outside start.args.line.now start.requires.1 out) signal-off
+    rw (form-outside c.args.line.now c.requires.1 out) signal-off
 
 pub overflow_sub-last : goal.overflow_sub-last
 overflow_sub-last c = omega (arith, (brackets c.args.line.now (sym c.in_brackets.ensures ∙ c.if-not-in_brackets.false)).long)
@@ -20,9 +19,8 @@ slice_bounds-signal_words-count c = omega (arith, (brackets c.args.line.now (sym
 
 pub signal_words-requires : goal.signal_words-requires
 signal_words-requires c =
-    let start = c in
-    let l = start.args.line.now in
-    omega (arith, start.requires.0, length-take ((length l - 1) - 1) (drop 1 l), length-drop 1 l)
+    let l = c.args.line.now in
+    omega (arith, c.requires.0, length-take ((length l - 1) - 1) (drop 1 l), length-drop 1 l)
 
 pub returns : goal.returns
 returns c =

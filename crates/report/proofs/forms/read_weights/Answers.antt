@@ -25,28 +25,19 @@ pub read_figure-requires : goal.read_figure-requires
 read_figure-requires c = tt
 
 pub keep_weight-count-requires : goal.keep_weight-count-requires
-keep_weight-count-requires c =
-    let at-loop = c in
-    (omega (arith, at-loop.requires.1, at-loop.loop-at.invariant.2), at-loop.loop-at.invariant.1)
+keep_weight-count-requires c = (omega (arith, c.requires.1, c.loop-at.invariant.2), c.loop-at.invariant.1)
 
 pub loop-at-smaller : goal.loop-at-smaller
-loop-at-smaller c =
-    let at-find = c in
-    omega (arith, at-find.find-end.ensures.from, at-find.find-end.ensures.within)
+loop-at-smaller c = omega (arith, c.find-end.ensures.from, c.find-end.ensures.within)
 
 pub loop-at-preserved : goal.loop-at-preserved
 loop-at-preserved c =
-    let at-keep-weight = c in
-    let at_x = at-keep-weight in
-    let at-read-figure = at_x in
-    let at-find = at-read-figure in
-    let at-loop = at-find in
-    let text = at-loop.args.text.now in
-    let lp = at-loop.loop-at in
-    let f = at-find.find-end in
+    let text = c.args.text.now in
+    let lp = c.loop-at in
+    let f = c.find-end in
     let x = c.in-Value.x in
     let k = figure-known _ (Value x) x c.in-Value.ensures refl in
-    let kept = at-keep-weight.keep_weight-count in
+    let kept = c.keep_weight-count in
     let all = figures-on text lp.at f.result (omega arith) f.ensures k.0 in
     let later = map value_of (rest 32 (drop f.result text)) in
     let values : map value_of (rest 32 (drop lp.at text)) ≡ x ∷ later
@@ -60,26 +51,22 @@ loop-at-preserved c =
 
 pub returns-in-Off : goal.returns-in-Off
 returns-in-Off c =
-    let at-find = c in
-    let at-loop = at-find in
-    let text = at-loop.args.text.now in
-    let lp = at-loop.loop-at in
-    let f = at-find.find-end in
+    let text = c.args.text.now in
+    let lp = c.loop-at in
+    let f = c.find-end in
     let none = figure-none _ Off c.in-Off.ensures refl in
     weights-bad _ (lp.invariant.3 ∙ figures-off text lp.at f.result (omega arith) f.ensures none)
 
 pub returns : goal.returns
 returns c =
-    let at-loop = c in
-    let start = at-loop in
-    let text = start.args.text.now in
-    let lp = at-loop.loop-at in
+    let text = c.args.text.now in
+    let lp = c.loop-at in
     let d = figures-done text lp.at (omega arith) in
     let kept = take lp.count lp.weights in
     let values = lp.invariant.4 ∙ ap (λ (m : List ℕ). folded max_segments (kept ++ m)) d.1 ∙ ap (folded max_segments) (append-nil kept) in
     record {
-      all = map value_of (rest 32 (drop start.args.from text));
+      all = map value_of (rest 32 (drop c.args.from text));
       form = weights-good _ _ (lp.invariant.3 ∙ d.0) refl;
       are = sym (values ∙ lp.invariant.1.folded_is);
-      in_buffer = omega (arith, lp.invariant.1.few, lp.invariant.2, start.requires.1);
+      in_buffer = omega (arith, lp.invariant.1.few, lp.invariant.2, c.requires.1);
     }

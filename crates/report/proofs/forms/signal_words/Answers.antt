@@ -13,23 +13,18 @@ slice_bounds-same-end c = sym (length-take-le _ _ c.find-end.ensures.within)
 pub returns-then-not-same : goal.returns-then-not-same
 unfolding bytes
 returns-then-not-same c =
-    let found = c in
-    let text = found.args.text.now in
-    let f = found.find-end in
+    let text = c.args.text.now in
+    let f = c.find-end in
     let s = sym c.same.ensures ∙ c.if-not-same.true in
     rw (first_part 32 text f.result f.ensures) (signal-other (take f.result text) _ s)
 
 pub read_samples-requires : goal.read_samples-requires
-read_samples-requires c =
-    let found = c in
-    (found.find-end.ensures.within, found.requires)
+read_samples-requires c = (c.find-end.ensures.within, c.requires)
 
 pub returns : goal.returns
 unfolding bytes
 returns c =
-    let same = c in
-    let found = same in
-    let text = found.args.text.now in
-    let f = found.find-end in
-    let s = sym same.same.ensures ∙ same.if-not-same.false in
+    let text = c.args.text.now in
+    let f = c.find-end in
+    let s = sym c.same.ensures ∙ c.if-not-same.false in
     rw (first_part 32 text f.result f.ensures, signal-words (take f.result text) _ s) c.read_samples.ensures

@@ -8,10 +8,8 @@ use Rattle.report.proofs.forms.weights_line.Goals as goal
 
 pub returns-then-not-in_brackets : goal.returns-then-not-in_brackets
 returns-then-not-in_brackets c =
-    let at-in-brackets = c in
-    let start = at-in-brackets in
-    let out = sym at-in-brackets.in_brackets.ensures ∙ c.if-not-in_brackets.true in
-    rw (form-outside start.args.line.now start.requires.1 out) weights-off
+    let out = sym c.in_brackets.ensures ∙ c.if-not-in_brackets.true in
+    rw (form-outside c.args.line.now c.requires.1 out) weights-off
 
 pub overflow_sub-last : goal.overflow_sub-last
 overflow_sub-last c = omega (arith, (brackets c.args.line.now (sym c.in_brackets.ensures ∙ c.if-not-in_brackets.false)).long)
@@ -20,9 +18,7 @@ pub slice_bounds-weights_words-count : goal.slice_bounds-weights_words-count
 slice_bounds-weights_words-count c = omega (arith, (brackets c.args.line.now (sym c.in_brackets.ensures ∙ c.if-not-in_brackets.false)).long)
 
 pub weights_words-requires : goal.weights_words-requires
-weights_words-requires c =
-    let start = c in
-    start.requires.0
+weights_words-requires c = c.requires.0
 
 pub returns : goal.returns
 returns c =

@@ -5,7 +5,7 @@ use Rattle.report.proofs.Items.{last_inner, last-outer}
 use Rattle.report.proofs.lines.last_position.Goals as goal
 
 pub overflow_cast-result : goal.overflow_cast-result
-overflow_cast-result c = omega (arith, c.shared_slice_known-1.given (c.args.i + 1))
+overflow_cast-result c = omega (arith, c.type_inv.starts (c.args.i + 1))
 
 pub overflow_sub-result : goal.overflow_sub-result
 overflow_sub-result c = c.requires.1.1 c.if-i-count.true

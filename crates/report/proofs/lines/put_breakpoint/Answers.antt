@@ -7,26 +7,14 @@ use Rattle.report.proofs.Pieces.{breakpoint-length}
 use Rattle.report.proofs.lines.put_breakpoint.Goals as goal
 
 pub put_text-word-requires : goal.put_text-word-requires
-put_text-word-requires c =
-    let start = c in
-    omega (arith, breakpoint-length start.args.numerator start.args.denominator)
+put_text-word-requires c = omega (arith, breakpoint-length c.args.numerator c.args.denominator)
 
 pub put_two-number-requires : goal.put_two-number-requires
-put_two-number-requires c =
-    let word = c in
-    let start = word in
-    omega (arith, breakpoint-length start.args.numerator start.args.denominator)
+put_two-number-requires c = omega (arith, breakpoint-length c.args.numerator c.args.denominator)
 
 pub put_byte-requires : goal.put_byte-requires
-put_byte-requires c =
-    let number = c in
-    let word = number in
-    let start = word in
-    omega (arith, breakpoint-length start.args.numerator start.args.denominator)
+put_byte-requires c = omega (arith, breakpoint-length c.args.numerator c.args.denominator)
 
 pub returns : goal.returns
 unfolding bytes breakpoint_text
-returns c =
-    let number = c in
-    let word = number in
-    put_then (put_then word.put_text-word.ensures number.put_two-number.ensures) c.put_byte.ensures
+returns c = put_then (put_then c.put_text-word.ensures c.put_two-number.ensures) c.put_byte.ensures

@@ -27,16 +27,11 @@ bounds-weights-i c = omega (arith, c.requires.in_weights)
 
 pub put_model-requires : goal.put_model-requires
 put_model-requires c =
-    let at-then1 = c in
-    let start = at-then1 in
-    omega (arith, ap length (entry_first start.args.given (lists start.args.sizes.now start.args.losses.now start.args.weights.now) start.args.i at-then1.if-i-eq0.true))
+    omega (arith, ap length (entry_first c.args.given (lists c.args.sizes.now c.args.losses.now c.args.weights.now) c.args.i c.if-i-eq0.true))
 
 pub returns-then-i-eq0 : goal.returns-then-i-eq0
 returns-then-i-eq0 c =
-    let at-put-model = c in
-    let at-then1 = at-put-model in
-    let start = at-then1 in
-    put_as (sym (entry_first start.args.given (lists start.args.sizes.now start.args.losses.now start.args.weights.now) start.args.i at-then1.if-i-eq0.true)) at-put-model.put_model.ensures
+    put_as (sym (entry_first c.args.given (lists c.args.sizes.now c.args.losses.now c.args.weights.now) c.args.i c.if-i-eq0.true)) c.put_model.ensures
 
 pub offset_bounds-losses-before : goal.offset_bounds-losses-before
 offset_bounds-losses-before c = omega (arith, c.requires.in_losses)
@@ -58,21 +53,13 @@ overflow_sub-denominator c = c.requires.rise (omega (arith, c.if-i-eq0.false))
 
 pub put_breakpoint-place-requires : goal.put_breakpoint-place-requires
 put_breakpoint-place-requires c =
-    let at-else1 = c in
-    let start = at-else1 in
-    omega (arith, entry_length start.args.given (lists start.args.sizes.now start.args.losses.now start.args.weights.now) start.args.i at-else1.if-i-eq0.false)
+    omega (arith, entry_length c.args.given (lists c.args.sizes.now c.args.losses.now c.args.weights.now) c.args.i c.if-i-eq0.false)
 
 pub put_model-requires-2 : goal.put_model-requires-2
 put_model-requires-2 c =
-    let at-else1 = c in
-    let start = at-else1 in
-    omega (arith, entry_length start.args.given (lists start.args.sizes.now start.args.losses.now start.args.weights.now) start.args.i at-else1.if-i-eq0.false)
+    omega (arith, entry_length c.args.given (lists c.args.sizes.now c.args.losses.now c.args.weights.now) c.args.i c.if-i-eq0.false)
 
 pub returns : goal.returns
 returns c =
-    let at-put-model2 = c in
-    let at-put-breakpoint = at-put-model2 in
-    let at-else1 = at-put-breakpoint in
-    let start = at-else1 in
-    let both = put_then at-put-breakpoint.put_breakpoint-place.ensures at-put-model2.put_model-2.ensures in
-    put_as (sym (entry-later start.args.given (lists start.args.sizes.now start.args.losses.now start.args.weights.now) start.args.i at-else1.if-i-eq0.false)) both
+    let both = put_then c.put_breakpoint-place.ensures c.put_model-2.ensures in
+    put_as (sym (entry-later c.args.given (lists c.args.sizes.now c.args.losses.now c.args.weights.now) c.args.i c.if-i-eq0.false)) both

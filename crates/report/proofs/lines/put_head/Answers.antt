@@ -8,76 +8,42 @@ use Rattle.report.proofs.lines.put_head.Goals as goal
 
 pub put_text-word-requires : goal.put_text-word-requires
 put_text-word-requires c =
-    let start = c in
-    let a = start.args in
+    let a = c.args in
     omega (arith, head-length a.p a.q a.segments a.loss)
 
 pub put_two-penalty-requires : goal.put_two-penalty-requires
 put_two-penalty-requires c =
-    let word = c in
-    let start = word in
-    let a = start.args in
+    let a = c.args in
     omega (arith, head-length a.p a.q a.segments a.loss)
 
 pub put_text-runs-requires : goal.put_text-runs-requires
 put_text-runs-requires c =
-    let penalty = c in
-    let word = penalty in
-    let start = word in
-    let a = start.args in
+    let a = c.args in
     omega (arith, head-length a.p a.q a.segments a.loss)
 
 pub put_number-count-requires : goal.put_number-count-requires
 put_number-count-requires c =
-    let runs = c in
-    let penalty = runs in
-    let word = penalty in
-    let start = word in
-    let a = start.args in
+    let a = c.args in
     omega (arith, head-length a.p a.q a.segments a.loss)
 
 pub put_text-second-requires : goal.put_text-second-requires
 put_text-second-requires c =
-    let count = c in
-    let runs = count in
-    let penalty = runs in
-    let word = penalty in
-    let start = word in
-    let a = start.args in
+    let a = c.args in
     omega (arith, head-length a.p a.q a.segments a.loss)
 
 pub put_number-value-requires : goal.put_number-value-requires
 put_number-value-requires c =
-    let second = c in
-    let count = second in
-    let runs = count in
-    let penalty = runs in
-    let word = penalty in
-    let start = word in
-    let a = start.args in
+    let a = c.args in
     omega (arith, head-length a.p a.q a.segments a.loss)
 
 pub put_byte-requires : goal.put_byte-requires
 put_byte-requires c =
-    let value = c in
-    let second = value in
-    let count = second in
-    let runs = count in
-    let penalty = runs in
-    let word = penalty in
-    let start = word in
-    let a = start.args in
+    let a = c.args in
     omega (arith, head-length a.p a.q a.segments a.loss)
 
 pub returns : goal.returns
 unfolding bytes head_text
 returns c =
-    let value = c in
-    let second = value in
-    let count = second in
-    let runs = count in
-    let penalty = runs in
-    let word = penalty in
-    let front = put_then (put_then word.put_text-word.ensures penalty.put_two-penalty.ensures) runs.put_text-runs.ensures in
-    let middle = put_then (put_then front count.put_number-count.ensures) second.put_text-second.ensures in
-    put_then (put_then middle value.put_number-value.ensures) c.put_byte.ensures
+    let front = put_then (put_then c.put_text-word.ensures c.put_two-penalty.ensures) c.put_text-runs.ensures in
+    let middle = put_then (put_then front c.put_number-count.ensures) c.put_text-second.ensures in
+    put_then (put_then middle c.put_number-value.ensures) c.put_byte.ensures

@@ -7,44 +7,26 @@ use Rattle.report.proofs.Pieces.{model-length}
 use Rattle.report.proofs.lines.put_model.Goals as goal
 
 pub put_text-word-requires : goal.put_text-word-requires
-put_text-word-requires c =
-    let start = c in
-    omega (arith, model-length start.args.size start.args.loss start.args.given start.args.weight)
+put_text-word-requires c = omega (arith, model-length c.args.size c.args.loss c.args.given c.args.weight)
 
 pub put_number-number-requires : goal.put_number-number-requires
-put_number-number-requires c =
-    let start = c in
-    omega (arith, model-length start.args.size start.args.loss start.args.given start.args.weight)
+put_number-number-requires c = omega (arith, model-length c.args.size c.args.loss c.args.given c.args.weight)
 
 pub put_text-second-requires : goal.put_text-second-requires
-put_text-second-requires c =
-    let start = c in
-    omega (arith, model-length start.args.size start.args.loss start.args.given start.args.weight)
+put_text-second-requires c = omega (arith, model-length c.args.size c.args.loss c.args.given c.args.weight)
 
 pub put_number-value-requires : goal.put_number-value-requires
-put_number-value-requires c =
-    let start = c in
-    omega (arith, model-length start.args.size start.args.loss start.args.given start.args.weight)
+put_number-value-requires c = omega (arith, model-length c.args.size c.args.loss c.args.given c.args.weight)
 
 pub put_weight-third-requires : goal.put_weight-third-requires
-put_weight-third-requires c =
-    let start = c in
-    omega (arith, model-length start.args.size start.args.loss start.args.given start.args.weight)
+put_weight-third-requires c = omega (arith, model-length c.args.size c.args.loss c.args.given c.args.weight)
 
 pub put_byte-requires : goal.put_byte-requires
-put_byte-requires c =
-    let start = c in
-    omega (arith, model-length start.args.size start.args.loss start.args.given start.args.weight)
+put_byte-requires c = omega (arith, model-length c.args.size c.args.loss c.args.given c.args.weight)
 
 pub returns : goal.returns
 unfolding bytes model_text
 returns c =
-    let at-put-byte = c in
-    let at-put-weight = at-put-byte in
-    let at-put-number2 = at-put-weight in
-    let at-put-text2 = at-put-number2 in
-    let at-put-number = at-put-text2 in
-    let at-put-text = at-put-number in
-    let front = put_then (put_then at-put-text.put_text-word.ensures at-put-number.put_number-number.ensures) at-put-text2.put_text-second.ensures in
-    let body = put_then front at-put-number2.put_number-value.ensures in
-    put_then (put_then body at-put-weight.put_weight-third.ensures) at-put-byte.put_byte.ensures
+    let front = put_then (put_then c.put_text-word.ensures c.put_number-number.ensures) c.put_text-second.ensures in
+    let body = put_then front c.put_number-value.ensures in
+    put_then (put_then body c.put_weight-third.ensures) c.put_byte.ensures

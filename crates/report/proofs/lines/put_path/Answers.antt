@@ -9,16 +9,13 @@ use Rattle.report.proofs.lines.put_path.Goals as goal
 
 pub put_text-word-requires : goal.put_text-word-requires
 put_text-word-requires c =
-    let start = c in
-    let a = start.args in
+    let a = c.args in
     omega (arith, path-length a.given (path_of (lists a.sizes.now a.losses.now a.weights.now) a.entries))
 
 pub put_entries-items-requires : goal.put_entries-items-requires
 put_entries-items-requires c =
-    let word = c in
-    let start = c in
-    let a = start.args in
-    let p = start.requires in
+    let a = c.args in
+    let p = c.requires in
     record {
       places = p.places;
       order = p.order;
@@ -27,18 +24,13 @@ put_entries-items-requires c =
 
 pub put_text-requires : goal.put_text-requires
 put_text-requires c =
-    let items = c in
-    let word = c in
-    let start = c in
-    let a = start.args in
+    let a = c.args in
     omega (arith, path-length a.given (path_of (lists a.sizes.now a.losses.now a.weights.now) a.entries))
 
 pub returns : goal.returns
 unfolding path_line bytes
 returns c =
-    let items = c in
-    let word = c in
     let a = c.args in
     let entries = entries_text a.given (path_of (lists a.sizes.now a.losses.now a.weights.now) a.entries) in
-    let front = put_then {u = entries} word.put_text-word.ensures items.put_entries-items.ensures in
+    let front = put_then {u = entries} c.put_text-word.ensures c.put_entries-items.ensures in
     put_then front c.put_text.ensures

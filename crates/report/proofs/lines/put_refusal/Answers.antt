@@ -7,26 +7,14 @@ use Rattle.report.proofs.Pieces.{refusal-length}
 use Rattle.report.proofs.lines.put_refusal.Goals as goal
 
 pub put_text-word-requires : goal.put_text-word-requires
-put_text-word-requires c =
-    let start = c in
-    omega (arith, refusal-length start.args.refusal)
+put_text-word-requires c = omega (arith, refusal-length c.args.refusal)
 
 pub put_number-number-requires : goal.put_number-number-requires
-put_number-number-requires c =
-    let word = c in
-    let start = word in
-    omega (arith, refusal-length start.args.refusal)
+put_number-number-requires c = omega (arith, refusal-length c.args.refusal)
 
 pub put_text-requires : goal.put_text-requires
-put_text-requires c =
-    let number = c in
-    let word = number in
-    let start = word in
-    omega (arith, refusal-length start.args.refusal)
+put_text-requires c = omega (arith, refusal-length c.args.refusal)
 
 pub returns : goal.returns
 unfolding bytes refusal_line
-returns c =
-    let number = c in
-    let word = number in
-    put_then (put_then word.put_text-word.ensures number.put_number-number.ensures) c.put_text.ensures
+returns c = put_then (put_then c.put_text-word.ensures c.put_number-number.ensures) c.put_text.ensures

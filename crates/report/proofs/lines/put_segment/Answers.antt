@@ -10,53 +10,33 @@ use Rattle.report.proofs.lines.put_segment.Goals as goal
 
 pub put_text-word-requires : goal.put_text-word-requires
 put_text-word-requires c =
-    let start = c in
-    let a = start.args in
+    let a = c.args in
     omega (arith, segment-length a.first a.last a.level)
 
 pub put_two-ends-requires : goal.put_two-ends-requires
 put_two-ends-requires c =
-    let word = c in
-    let start = word in
-    let a = start.args in
+    let a = c.args in
     omega (arith, segment-length a.first a.last a.level)
 
 pub put_byte-blank-requires : goal.put_byte-blank-requires
 put_byte-blank-requires c =
-    let ends = c in
-    let word = ends in
-    let start = word in
-    let a = start.args in
+    let a = c.args in
     omega (arith, segment-length a.first a.last a.level)
 
 pub put_level-value-requires : goal.put_level-value-requires
 put_level-value-requires c =
-    let blank = c in
-    let ends = blank in
-    let word = ends in
-    let start = word in
-    let a = start.args in
-    rw (to_z-of_z start.ranges.level) (omega (arith, segment-length a.first a.last a.level))
+    let a = c.args in
+    rw (to_z-of_z c.ranges.level) (omega (arith, segment-length a.first a.last a.level))
 
 pub put_byte-requires : goal.put_byte-requires
 put_byte-requires c =
-    let value = c in
-    let blank = value in
-    let ends = blank in
-    let word = ends in
-    let start = word in
-    let a = start.args in
-    let level-end = rw (to_z-of_z start.ranges.level) at value.put_level-value.ensures.end_is in
+    let a = c.args in
+    let level-end = rw (to_z-of_z c.ranges.level) at c.put_level-value.ensures.end_is in
     omega (arith, segment-length a.first a.last a.level)
 
 pub returns : goal.returns
 unfolding bytes segment_text
 returns c =
-    let value = c in
-    let blank = value in
-    let ends = blank in
-    let word = ends in
-    let start = word in
-    let front = put_then (put_then word.put_text-word.ensures ends.put_two-ends.ensures) blank.put_byte-blank.ensures in
-    let level = rw (to_z-of_z start.ranges.level) at value.put_level-value.ensures in
+    let front = put_then (put_then c.put_text-word.ensures c.put_two-ends.ensures) c.put_byte-blank.ensures in
+    let level = rw (to_z-of_z c.ranges.level) at c.put_level-value.ensures in
     put_then (put_then front level) c.put_byte.ensures

@@ -26,8 +26,7 @@ unfolding items_text
 loop-i-init c = (omega arith, refl, put-nothing c.args.output.now c.args.at (omega (arith, c.requires.fits)), omega arith)
 
 pub last_position-last-requires : goal.last_position-last-requires
-last_position-last-requires c =
-    (c.loop-i-test.true, (c.requires.in_starts, λ h. c.requires.positive (c.loop-i.i + 1) h))
+last_position-last-requires c = (c.loop-i-test.true, (c.requires.in_starts, λ h. c.requires.positive (c.loop-i.i + 1) h))
 
 pub offset_bounds-starts-i : goal.offset_bounds-starts-i
 offset_bounds-starts-i c = omega (arith, c.requires.in_starts)
