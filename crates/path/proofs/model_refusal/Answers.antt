@@ -26,26 +26,29 @@ unfolding refusal_of
 returns-then-size-sizes c =
     let a = c.args in
     let t = lists a.sizes.now a.losses.now a.weights.now in
-    sym (later-model t a.entries (a.entries - 1) (model a.size a.loss a.weight) (sym c.in_range.ensures ∙ c.if-not-in_range.false) (omega arith) ∙ rw (le-ltb _ _ c.if-size-sizes.true))
+    let last = a.entries - 1 in
+    sym (later-model t a.entries last (model a.size a.loss a.weight) (sym c.in_range.ensures ∙ c.if-not-in_range.false) (omega arith)
+    ∙ rw (le-ltb (get_or a.sizes.now last 0) a.size (omega arith)))
 
 pub returns-then-weight-weights : goal.returns-then-weight-weights
 unfolding refusal_of
 returns-then-weight-weights c =
     let a = c.args in
     let t = lists a.sizes.now a.losses.now a.weights.now in
-    sym (later-model t a.entries (a.entries - 1) (model a.size a.loss a.weight) (sym c.in_range.ensures ∙ c.if-not-in_range.false) (omega arith) ∙ rw (lt-ltb _ _ c.if-size-sizes.false, le-ltb _ _ c.if-weight-weights.true))
+    let last = a.entries - 1 in
+    sym (later-model t a.entries last (model a.size a.loss a.weight) (sym c.in_range.ensures ∙ c.if-not-in_range.false) (omega arith)
+    ∙ rw (lt-ltb (get_or a.sizes.now last 0) a.size (omega arith), le-ltb (get_or a.weights.now last 0) a.weight (omega arith)))
 
 pub returns-then-losses-last : goal.returns-then-losses-last
 unfolding refusal_of
 returns-then-losses-last c =
     let a = c.args in
     let t = lists a.sizes.now a.losses.now a.weights.now in
-    sym (later-model t a.entries (a.entries - 1) (model a.size a.loss a.weight) (sym c.in_range.ensures
-    ∙ c.if-not-in_range.false) (omega arith) ∙ rw (
-      lt-ltb _ _ c.if-size-sizes.false,
-      lt-ltb _ _
-          c.if-weight-weights.false,
-      lt-leb a.loss (get_or a.losses.now (a.entries - 1) 0) c.if-losses-last.true,
+    let last = a.entries - 1 in
+    sym (later-model t a.entries last (model a.size a.loss a.weight) (sym c.in_range.ensures ∙ c.if-not-in_range.false) (omega arith) ∙ rw (
+      lt-ltb (get_or a.sizes.now last 0) a.size (omega arith),
+      lt-ltb (get_or a.weights.now last 0) a.weight (omega arith),
+      lt-leb a.loss (get_or a.losses.now last 0) (omega arith),
     ))
 
 pub returns : goal.returns
@@ -53,10 +56,9 @@ unfolding refusal_of
 returns c =
     let a = c.args in
     let t = lists a.sizes.now a.losses.now a.weights.now in
-    sym (later-model t a.entries (a.entries - 1) (model a.size a.loss a.weight) (sym c.in_range.ensures
-    ∙ c.if-not-in_range.false) (omega arith) ∙ rw (
-      lt-ltb _ _ c.if-size-sizes.false,
-      lt-ltb _ _
-          c.if-weight-weights.false,
-      le-leb a.loss (get_or a.losses.now (a.entries - 1) 0) c.if-losses-last.false,
+    let last = a.entries - 1 in
+    sym (later-model t a.entries last (model a.size a.loss a.weight) (sym c.in_range.ensures ∙ c.if-not-in_range.false) (omega arith) ∙ rw (
+      lt-ltb (get_or a.sizes.now last 0) a.size (omega arith),
+      lt-ltb (get_or a.weights.now last 0) a.weight (omega arith),
+      le-leb a.loss (get_or a.losses.now last 0) (omega arith),
     ))
