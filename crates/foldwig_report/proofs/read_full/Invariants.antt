@@ -1,9 +1,9 @@
--- The bytes keep their number, and so many are read as there is room for.
-use Rattle.std.proofs.Common.{length, ◌-◌, ◌≤◌, ◌≡◌}
+-- `foldwig_report::read_full`: so many bytes have been put to the front, and each turn puts one more at least.
+use Rattle.std.proofs.Common.{length, ◌-◌, ◌≤◌}
 use Rattle.foldwig_report.proofs.read_full.Given as goal
 
 abbrev pub invariant-loop-done : goal.invariant-loop-done
-invariant-loop-done g l = (length l.bytes ≡ length l.initial.bytes) × (l.done ≤ length l.bytes)
+invariant-loop-done g l = l.done ≤ length l.bytes
 
 abbrev pub decreases-loop-done : goal.decreases-loop-done
-decreases-loop-done g l = length l.initial.bytes - l.done
+decreases-loop-done g l = length l.bytes - l.done
