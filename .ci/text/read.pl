@@ -15,7 +15,7 @@ my (%functions, %outside, %uses, %modules, %types, @odd, @sections);
 
 # Forms that could hide a name or a text from this reading: none may stand anywhere, between functions, within one, or in a literal. The
 # macros that are left are std's, and hide nothing that they are given.
-my $plain = qr{unsafe\(no_mangle\)|repr\(C\)|derive\((?:Clone|Copy|Drop|, )+\)|cycle\(\w+\)};
+my $plain = qr{unsafe\(no_mangle\)|repr\(C\)|derive\((?:Clone|Copy|Drop|, )+\)|cycle\(\w+\)|inline\(never\)};
 my $macros = qr/(?:e?print(?:ln)?|write(?:ln)?|format|vec|assert(?:_eq|_ne)?|prove|matches)/;
 my $hides = qr{\#!?\[(?!$plain\])[^\]]*\]|/\*|\br\#|\bmacro_rules\b|\btrait\b|\bfn\s*\(|(?<!\w)::|::(?!\w)|(?<!\w)(?!$macros!)\w+!\s*[(\[\{]};
 my $hides_outside = qr/\bpub use\b[^;]*|\buse\b[^;]*(?:\bas\b|[{*])[^;]*|\bmod\s+\w+\s*\{|\bfn\b.{0,40}|[^\x00-\x7f]+/;
