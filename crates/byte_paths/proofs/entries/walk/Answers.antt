@@ -2,7 +2,6 @@
 use mathlib.Core.Path.{◌≡◌, ◌∙◌}
 use Prim.Native.Nat.{◌+◌, ◌*◌, ◌-◌}
 use native.Mathlib.Omega.{arith}
-use lib.ListN.{get_or}
 use Rattle.layout.specs.Items.{items_of}
 use Rattle.select.proofs.Walks.{walk_start, walk_ends, walk-stops, walk-on}
 use Rattle.byte_paths.proofs.entries.walk.Goals as goal
@@ -54,11 +53,10 @@ cost_of-next_cost-requires c =
 
 pub returns-then-cost-next_cost : goal.returns-then-cost-next_cost
 returns-then-cost-next_cost c =
-    let next-costs : c.cost_of-next_cost.result ≡ c.args.q * get_or (items_of 8 c.args.losses.now) (c.loop-i.i + 1) 0 + c.args.p * get_or (items_of 2 c.args.weights.now) (c.loop-i.i + 1) 0 = let a = c.args in
+    let a = c.args in
     let l = c.item_u64-in-loop-i.ensures in
     let w = c.item_u16-in-loop-i.ensures in
-    c.cost_of-next_cost.ensures ∙ (λ i. a.q * l i + a.p * w i) in
-    let a = c.args in
+    let next-costs = c.cost_of-next_cost.ensures ∙ (λ i. a.q * l i + a.p * w i) in
     let v = c.loop-i in
     let last = a.entries - 1 in
     let whole : last + 1 ≡ a.entries = omega (arith, c.requires.0.some) in
@@ -66,11 +64,10 @@ returns-then-cost-next_cost c =
 
 pub loop-i-preserved : goal.loop-i-preserved
 loop-i-preserved c =
-    let next-costs : c.cost_of-next_cost.result ≡ c.args.q * get_or (items_of 8 c.args.losses.now) (c.loop-i.i + 1) 0 + c.args.p * get_or (items_of 2 c.args.weights.now) (c.loop-i.i + 1) 0 = let a = c.args in
+    let a = c.args in
     let l = c.item_u64-in-loop-i.ensures in
     let w = c.item_u16-in-loop-i.ensures in
-    c.cost_of-next_cost.ensures ∙ (λ i. a.q * l i + a.p * w i) in
-    let a = c.args in
+    let next-costs = c.cost_of-next_cost.ensures ∙ (λ i. a.q * l i + a.p * w i) in
     let v = c.loop-i in
     walk-on (items_of 8 a.losses.now) (items_of 2 a.weights.now) a.p a.q (a.entries - 1) v.i v.cost v.invariant (omega arith) _ next-costs (omega (arith, c.if-cost-next_cost.false))
 
