@@ -1,5 +1,6 @@
 // The calls on a path over byte strings. An append, a selection and a listing of breakpoints read and write the bytes where they lie. A
-// build reads the models to lists of its own.
+// build reads the models to lists of its own. What is claimed of a call asks that the strings lent hold bytes, which its clause `held`
+// says.
 
 #![tactic(auto)]
 
@@ -73,8 +74,9 @@ pub fn append(
     loss: u64,
     weight: u64,
 ) -> PathResult
-    ensures { outcome result (lists sizes.new losses.new weights.new)
+    ensures outcome { outcome result (lists sizes.new losses.new weights.new)
         ≡ append_bytes_of (lists sizes.old losses.old weights.old) entries (model size loss weight) }
+    ensures held { models_coding.Held (lists sizes.old losses.old weights.old) }
 {
     if sizes.len() % 2 + losses.len() % 8 + weights.len() % 2 != 0 {
         return path::refuse(11);
@@ -139,10 +141,12 @@ pub fn build_by(
     path_losses: &mut [u8],
     path_weights: &mut [u8],
 ) -> PathResult
-    ensures { outcome result (lists path_sizes.new path_losses.new path_weights.new)
+    ensures outcome { outcome result (lists path_sizes.new path_losses.new path_weights.new)
         ≡ build_bytes_by older
         (lists sizes.now losses.now weights.now)
         (lists path_sizes.old path_losses.old path_weights.old) }
+    ensures held { models_coding.Held (lists sizes.now losses.now weights.now)
+        × models_coding.Held (lists path_sizes.old path_losses.old path_weights.old) }
 {
     let spare = sizes.len() % 2 + losses.len() % 8 + weights.len() % 2;
     if spare + path_sizes.len() % 2 + path_losses.len() % 8 + path_weights.len() % 2 != 0 {
@@ -190,7 +194,8 @@ pub fn select(
     p: u64,
     q: u64,
 ) -> SelectResult
-    ensures { result ≡ select_bytes_of (lists sizes.now losses.now weights.now) entries p q }
+    ensures outcome { result ≡ select_bytes_of (lists sizes.now losses.now weights.now) entries p q }
+    ensures held { models_coding.Held (lists sizes.now losses.now weights.now) }
 {
     if sizes.len() % 2 + losses.len() % 8 + weights.len() % 2 != 0 {
         return refuse_selection(11);
@@ -263,9 +268,11 @@ pub fn breakpoints(
     numerators: &mut [u8],
     denominators: &mut [u8],
 ) -> BreakpointsResult
-    ensures { outcome result (fractions numerators.new denominators.new)
+    ensures outcome { outcome result (fractions numerators.new denominators.new)
         ≡ breakpoints_bytes_of (lists sizes.now losses.now weights.now) entries
         (fractions numerators.old denominators.old) }
+    ensures held { models_coding.Held (lists sizes.now losses.now weights.now)
+        × fractions_coding.Held (fractions numerators.old denominators.old) }
 {
     let spare = sizes.len() % 2 + losses.len() % 8 + weights.len() % 2;
     if spare + numerators.len() % 8 + denominators.len() % 2 != 0 {

@@ -5,7 +5,7 @@ use native.Mathlib.Omega.{arith}
 use Rattle.coding.specs.Coding.{outcome}
 use Rattle.coding.specs.Models.{models_coding}
 use Rattle.coding.proofs.Strings.{front_length}
-use Rattle.coding.proofs.Models.{fronts-fit}
+use Rattle.coding.proofs.Models.{models-held, fronts-fit}
 use Rattle.coding.proofs.Calls.{eleven}
 use Rattle.path.specs.Model.{lists}
 use Rattle.path.specs.declared.PathResult.{PathResult}
@@ -22,8 +22,11 @@ returns-then-spare-path_sizes-ne0 c =
     let a = c.args in
     let x = lists a.sizes.now a.losses.now a.weights.now in
     let lent = lists a.path_sizes.now a.path_losses.now a.path_weights.now in
-    ap (λ (r : PathResult). outcome r lent) c.refuse.ensures
-    ∙ eleven models_coding models_coding path_answers (build_call a.older) x lent (λ e. c.if-spare-path_sizes-ne0.true (omega arith))
+    record {
+      outcome = ap (λ (r : PathResult). outcome r lent) c.refuse.ensures
+          ∙ eleven models_coding models_coding path_answers (build_call a.older) x lent (λ e. c.if-spare-path_sizes-ne0.true (omega arith));
+      held = (models-held x c.shared_slice_known-1.given c.shared_slice_known-2-1.given c.shared_slice_known-3-1.given, models-held lent c.slice_known-1.given c.slice_known-2-1.given c.slice_known-3-1.given);
+    }
 
 pub slice_bounds-size_items-end : goal.slice_bounds-size_items-end
 slice_bounds-size_items-end c = omega (arith, c.smaller-a.ensures)
@@ -52,4 +55,14 @@ build_items-requires c =
     record {
       whole = none_over _ _ _ _ _ _ c.if-spare-path_sizes-ne0.false;
       given = fronts-fit (lists a.sizes.now a.losses.now a.weights.now) models_read _ x.ensures y.ensures z.ensures refl (omega arith);
+    }
+
+pub returns : goal.returns
+returns c =
+    let a = c.args in
+    let x = lists a.sizes.now a.losses.now a.weights.now in
+    let lent = lists a.path_sizes.now a.path_losses.now a.path_weights.now in
+    record {
+      outcome = c.build_items.ensures;
+      held = (models-held x c.shared_slice_known-1.given c.shared_slice_known-2-1.given c.shared_slice_known-3-1.given, models-held lent c.slice_known-1.given c.slice_known-2-1.given c.slice_known-3-1.given);
     }

@@ -4,6 +4,7 @@ use Prim.Native.Nat.{◌+◌, ◌-◌}
 use native.Mathlib.Omega.{arith}
 use Rattle.coding.specs.Coding.{Outcome, none}
 use Rattle.coding.specs.Models.{models_coding}
+use Rattle.coding.proofs.Models.{models-held}
 use Rattle.coding.proofs.Calls.{eleven, whole-strings}
 use Rattle.path.specs.Model.{Model, lists}
 use Rattle.path.proofs.Order.{valid-parts, places-fewer}
@@ -17,9 +18,12 @@ pub returns-then-sizes-losses-ne0 : goal.returns-then-sizes-losses-ne0
 returns-then-sizes-losses-ne0 c =
     let a = c.args in
     let strings = lists a.sizes.now a.losses.now a.weights.now in
-    c.refuse_selection.ensures
-    ∙ ap (λ (o : Outcome SelectResult none.Strings). o.answer)
-    (eleven models_coding none select_answers (select_call a.entries a.p a.q) strings tt (λ e. c.if-sizes-losses-ne0.true (omega arith)))
+    record {
+      outcome = c.refuse_selection.ensures
+          ∙ ap (λ (o : Outcome SelectResult none.Strings). o.answer)
+          (eleven models_coding none select_answers (select_call a.entries a.p a.q) strings tt (λ e. c.if-sizes-losses-ne0.true (omega arith)));
+      held = models-held strings c.shared_slice_known-1.given c.shared_slice_known-2-1.given c.shared_slice_known-3-1.given;
+    }
 
 pub returns-then-refusal-ne0 : goal.returns-then-refusal-ne0
 returns-then-refusal-ne0 c =
@@ -31,7 +35,10 @@ returns-then-refusal-ne0 c =
     (whole-strings models_coding none select_answers (select_call a.entries a.p a.q) strings tt (omega (arith, c.if-sizes-losses-ne0.false))) in
     let refusal =
     c.select_refusal-refusal.ensures ∙ selecting-checks given a.entries a.p a.q _ c.valid_path-valid.ensures in
-    c.refuse_selection-then-refusal-ne0.ensures ∙ select-refused given a.entries a.p a.q _ refusal c.if-refusal-ne0.true ∙ on-numbers
+    record {
+      outcome = c.refuse_selection-then-refusal-ne0.ensures ∙ select-refused given a.entries a.p a.q _ refusal c.if-refusal-ne0.true ∙ on-numbers;
+      held = models-held strings c.shared_slice_known-1.given c.shared_slice_known-2-1.given c.shared_slice_known-3-1.given;
+    }
 
 pub walk-at-requires : goal.walk-at-requires
 walk-at-requires c =
@@ -64,6 +71,9 @@ returns c =
     (whole-strings models_coding none select_answers (select_call a.entries a.p a.q) strings tt (omega (arith, c.if-sizes-losses-ne0.false))) in
     let refusal =
     c.select_refusal-refusal.ensures ∙ selecting-checks given a.entries a.p a.q _ c.valid_path-valid.ensures in
-    ap (λ (m : Model). entry_is c.walk-at.result m) c.entry_at-entry.ensures
-    ∙ select-done given a.entries a.p a.q (sym refusal ∙ c.if-refusal-ne0.false) c.walk-at.result (c.walk-at.ensures given.sizes)
-    ∙ on-numbers
+    record {
+      outcome = ap (λ (m : Model). entry_is c.walk-at.result m) c.entry_at-entry.ensures
+          ∙ select-done given a.entries a.p a.q (sym refusal ∙ c.if-refusal-ne0.false) c.walk-at.result (c.walk-at.ensures given.sizes)
+          ∙ on-numbers;
+      held = models-held strings c.shared_slice_known-1.given c.shared_slice_known-2-1.given c.shared_slice_known-3-1.given;
+    }
