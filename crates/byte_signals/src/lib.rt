@@ -1,5 +1,6 @@
 // The calls on signals over byte strings. Samples and levels are two bytes each with a sign, starts, sizes and weights two without one,
-// losses eight, all with the low byte first.
+// losses eight, all with the low byte first. What is claimed of a call asks that the strings lent hold bytes, which its clause `held`
+// says.
 
 #![tactic(auto)]
 
@@ -11,7 +12,7 @@ ghost use Rattle.weights.specs.Weights.{all_in_range};
 ghost use Rattle.weights.specs.Inner.{folded};
 ghost use Rattle.least.specs.Segmentation.{max_segments};
 ghost use Rattle.signal.specs.SignalPath.{path_buffers};
-ghost use Rattle.byte_signals.specs.Signals.{signal_strings, signal_path_bytes_of, split_strings, split_bytes_of};
+ghost use Rattle.byte_signals.specs.Signals.{signal_strings, signal_coding, path_coding, signal_path_bytes_of, split_strings, split_coding, split_bytes_of};
 ghost use Rattle.byte_signals.specs.Inner.{read_weights, PathFits, SplitFits};
 
 use coding::{encode_models, encode_segments, read_models, read_segments};
@@ -130,12 +131,16 @@ pub fn signal_path(
     path_weights: &mut [u8],
     scratch: &mut [u8],
 ) -> SignalPathResult
-    ensures { outcome result
+    ensures outcome { outcome result
         (path_buffers
         (lists path_sizes.new path_losses.new path_weights.new)
         scratch.new)
         ≡ signal_path_bytes_of (signal_strings samples.now weights.now) max_segments min_segment_len
         (path_buffers
+        (lists path_sizes.old path_losses.old path_weights.old)
+        scratch.old) }
+    ensures held { signal_coding.Held (signal_strings samples.now weights.now)
+        × path_coding.Held (path_buffers
         (lists path_sizes.old path_losses.old path_weights.old)
         scratch.old) }
 {
@@ -270,13 +275,18 @@ pub fn split(
     path_weights: &mut [u8],
     scratch: &mut [u8],
 ) -> SplitResult
-    ensures { outcome result
+    ensures outcome { outcome result
         (split_strings
         starts.new levels.new
         (lists path_sizes.new path_losses.new path_weights.new)
         scratch.new)
         ≡ split_bytes_of (signal_strings samples.now weights.now) max_segments min_segment_len p q
         (split_strings
+        starts.old levels.old
+        (lists path_sizes.old path_losses.old path_weights.old)
+        scratch.old) }
+    ensures held { signal_coding.Held (signal_strings samples.now weights.now)
+        × split_coding.Held (split_strings
         starts.old levels.old
         (lists path_sizes.old path_losses.old path_weights.old)
         scratch.old) }

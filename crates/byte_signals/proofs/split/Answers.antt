@@ -4,8 +4,8 @@ use Prim.Native.Nat.{ℕ, ◌+◌}
 use native.Mathlib.Omega.{arith}
 use lib.IntN.{ℤ, pos}
 use Rattle.least.specs.Segmentation.{max_segments}
-use Rattle.coding.proofs.Strings.{front_length, front_fits}
-use Rattle.coding.proofs.Models.{fronts-fit}
+use Rattle.coding.proofs.Strings.{bytes-held, front_length, front_fits}
+use Rattle.coding.proofs.Models.{models-held, fronts-fit}
 use Rattle.coding.proofs.Calls.{eleven}
 use Rattle.path.specs.Model.{lists}
 use Rattle.byte_signals.specs.Signals.{signal_strings, signal_coding, split_strings, split_coding, split_answers, split_call}
@@ -23,7 +23,19 @@ returns-then-spare-ne0 c =
     let input = signal_strings a.samples.now a.weights.now in
     let lent = split_strings a.starts.now a.levels.now strings a.scratch.now in
     let call = split_call a.max_segments a.min_segment_len a.p a.q in
-    eleven signal_coding split_coding split_answers call input lent (λ e. c.if-spare-ne0.true (omega arith))
+    record {
+      outcome = eleven signal_coding split_coding split_answers call input lent (λ e. c.if-spare-ne0.true (omega arith));
+      held = (
+        (bytes-held a.samples.now c.shared_slice_known-1.given, bytes-held a.weights.now c.shared_slice_known-2-1.given),
+        (
+          bytes-held a.starts.now c.slice_known-1.given,
+          (
+            bytes-held a.levels.now c.slice_known-2-1.given,
+            (models-held strings c.slice_known-3-1.given c.slice_known-4-1.given c.slice_known-5-1.given, tt),
+          ),
+        ),
+      );
+    }
 
 pub slice_bounds-sample_items-end : goal.slice_bounds-sample_items-end
 slice_bounds-sample_items-end c = omega (arith, c.smaller-n.ensures)
@@ -80,4 +92,22 @@ split_items-requires c =
       starts_fit = front_fits {A = ℕ} 0 max_segments _ _ c.smaller-a.ensures refl (omega arith);
       levels_fit = front_fits {A = ℤ} (pos 0) max_segments _ _ c.smaller-b.ensures refl (omega arith);
       fit = fronts-fit strings max_segments max_segments c.smaller-s.ensures c.smaller-l.ensures c.smaller-w.ensures refl (omega arith);
+    }
+
+pub returns : goal.returns
+returns c =
+    let a = c.args in
+    let strings = lists a.path_sizes.now a.path_losses.now a.path_weights.now in
+    record {
+      outcome = c.split_items.ensures;
+      held = (
+        (bytes-held a.samples.now c.shared_slice_known-1.given, bytes-held a.weights.now c.shared_slice_known-2-1.given),
+        (
+          bytes-held a.starts.now c.slice_known-1.given,
+          (
+            bytes-held a.levels.now c.slice_known-2-1.given,
+            (models-held strings c.slice_known-3-1.given c.slice_known-4-1.given c.slice_known-5-1.given, tt),
+          ),
+        ),
+      );
     }
