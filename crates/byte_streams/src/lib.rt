@@ -1,13 +1,15 @@
 // The calls on streaming signals over byte strings. Samples and levels are two bytes each with a sign, starts, sizes and weights
-// two without one, losses eight, all with the low byte first. The table is handed on as it is.
+// two without one, losses eight, all with the low byte first. The table is handed on as it is. What is claimed of a call
+// asks that the strings lent hold bytes, and that a new sample is of 16 bits, which its clause `held` says.
 
 #![tactic(auto)]
 
 ghost use Rattle.std.specs.Prelude.{◌≡◌, length};
-ghost use Rattle.coding.specs.Coding.{outcome};
+ghost use Rattle.coding.specs.Coding.{outcome, signeds};
 ghost use Rattle.path.specs.Model.{lists};
+ghost use Rattle.segment.specs.Segment.{Sample16};
 ghost use Rattle.stream.specs.Extend.{stream_buffers};
-ghost use Rattle.byte_streams.specs.Streams.{extend_bytes_of, segment_strings, split_from_bytes_of};
+ghost use Rattle.byte_streams.specs.Streams.{stream_coding, extend_bytes_of, segment_strings, segments_coding, split_from_bytes_of};
 ghost use Rattle.byte_streams.specs.Inner.{ExtendFits, SplitFromFits};
 
 use byte_signals::READ_SAMPLES;
@@ -83,12 +85,16 @@ pub fn extend(
     path_losses: &mut [u8],
     path_weights: &mut [u8],
 ) -> ExtendResult
-    ensures { outcome result
+    ensures outcome { outcome result
         (stream_buffers
         table.new
         (lists path_sizes.new path_losses.new path_weights.new))
         ≡ extend_bytes_of samples.now sample max_segments
         (stream_buffers
+        table.old
+        (lists path_sizes.old path_losses.old path_weights.old)) }
+    ensures held { signeds.Held samples.now × Sample16 sample
+        × stream_coding.Held (stream_buffers
         table.old
         (lists path_sizes.old path_losses.old path_weights.old)) }
 {
@@ -170,9 +176,11 @@ pub fn split_from(
     starts: &mut [u8],
     levels: &mut [u8],
 ) -> SplitFromResult
-    ensures { outcome result (segment_strings starts.new levels.new)
+    ensures outcome { outcome result (segment_strings starts.new levels.new)
         ≡ split_from_bytes_of samples.now max_segments p q table.now
         (segment_strings starts.old levels.old) }
+    ensures held { signeds.Held samples.now
+        × segments_coding.Held (segment_strings starts.old levels.old) }
 {
     if samples.len() % 2 + starts.len() % 2 + levels.len() % 2 != 0 {
         return SplitFromResult {

@@ -6,10 +6,11 @@ use lib.IntN.{ℤ, pos}
 use mir.Syntax.{w16}
 use mir.Facts.{to_z-of_z}
 use Rattle.coding.specs.Coding.{signeds}
-use Rattle.coding.proofs.Strings.{front_length, front_fits}
-use Rattle.coding.proofs.Models.{fronts-fit}
+use Rattle.coding.proofs.Strings.{bytes-held, front_length, front_fits}
+use Rattle.coding.proofs.Models.{models-held, fronts-fit}
 use Rattle.coding.proofs.Calls.{eleven}
 use Rattle.path.specs.Model.{lists}
+use Rattle.segment.proofs.Bounds.{fits-sample}
 use Rattle.stream.specs.Table.{max_rows}
 use Rattle.stream.specs.Extend.{stream_buffers}
 use Rattle.byte_signals.specs.Inner.{read_samples}
@@ -20,7 +21,14 @@ pub returns-then-spare-ne0 : goal.returns-then-spare-ne0
 returns-then-spare-ne0 c =
     let a = c.args in
     let lent = stream_buffers a.table.now (lists a.path_sizes.now a.path_losses.now a.path_weights.now) in
-    eleven signeds stream_coding extend_answers (extend_call a.sample a.max_segments) a.samples.now lent (λ e. c.if-spare-ne0.true (omega arith))
+    record {
+      outcome = eleven signeds stream_coding extend_answers (extend_call a.sample a.max_segments) a.samples.now lent (λ e. c.if-spare-ne0.true (omega arith));
+      held = (
+        bytes-held a.samples.now c.shared_slice_known-1.given,
+        fits-sample a.sample c.ranges.sample.sfits,
+        (tt, models-held lent.path c.slice_known-2-1.given c.slice_known-3-1.given c.slice_known-4-1.given),
+      );
+    }
 
 pub slice_bounds-sample_items-end : goal.slice_bounds-sample_items-end
 slice_bounds-sample_items-end c = omega (arith, c.smaller-n.ensures)
@@ -60,5 +68,12 @@ pub returns : goal.returns
 returns c =
     let a = c.args in
     let lent = stream_buffers a.table.now (lists a.path_sizes.now a.path_losses.now a.path_weights.now) in
-    c.extend_items.ensures
-    ∙ ap (λ (x : ℤ). extend_bytes_of a.samples.now x a.max_segments lent) (to_z-of_z {w = w16} c.ranges.sample)
+    record {
+      outcome = c.extend_items.ensures
+          ∙ ap (λ (x : ℤ). extend_bytes_of a.samples.now x a.max_segments lent) (to_z-of_z {w = w16} c.ranges.sample);
+      held = (
+        bytes-held a.samples.now c.shared_slice_known-1.given,
+        fits-sample a.sample c.ranges.sample.sfits,
+        (tt, models-held lent.path c.slice_known-2-1.given c.slice_known-3-1.given c.slice_known-4-1.given),
+      );
+    }

@@ -4,7 +4,7 @@ use Prim.Native.Nat.{ℕ}
 use native.Mathlib.Omega.{arith}
 use lib.IntN.{ℤ, pos}
 use Rattle.coding.specs.Coding.{signeds}
-use Rattle.coding.proofs.Strings.{front_length, front_fits}
+use Rattle.coding.proofs.Strings.{bytes-held, front_length, front_fits}
 use Rattle.coding.proofs.Calls.{eleven}
 use Rattle.stream.specs.Table.{max_rows}
 use Rattle.byte_signals.specs.Inner.{read_samples}
@@ -15,7 +15,10 @@ pub returns-then-samples-starts-ne0 : goal.returns-then-samples-starts-ne0
 returns-then-samples-starts-ne0 c =
     let a = c.args in
     let call = split_from_call a.max_segments a.p a.q a.table.now in
-    eleven signeds segments_coding split_from_answers call a.samples.now (segment_strings a.starts.now a.levels.now) (λ e. c.if-samples-starts-ne0.true (omega arith))
+    record {
+      outcome = eleven signeds segments_coding split_from_answers call a.samples.now (segment_strings a.starts.now a.levels.now) (λ e. c.if-samples-starts-ne0.true (omega arith));
+      held = (bytes-held a.samples.now c.shared_slice_known-1.given, (bytes-held a.starts.now c.slice_known-1.given, bytes-held a.levels.now c.slice_known-2-1.given));
+    }
 
 pub slice_bounds-split_from_items-end : goal.slice_bounds-split_from_items-end
 slice_bounds-split_from_items-end c =
@@ -36,4 +39,12 @@ split_from_items-requires c =
       samples_fit = front_fits {A = ℤ} (pos 0) read_samples _ _ c.smaller-n.ensures refl (omega arith);
       starts_fit = front_fits {A = ℕ} 0 max_rows _ _ c.smaller-a.ensures refl (omega arith);
       levels_fit = front_fits {A = ℤ} (pos 0) max_rows _ _ c.smaller-b.ensures refl (omega arith);
+    }
+
+pub returns : goal.returns
+returns c =
+    let a = c.args in
+    record {
+      outcome = c.split_from_items.ensures;
+      held = (bytes-held a.samples.now c.shared_slice_known-1.given, (bytes-held a.starts.now c.slice_known-1.given, bytes-held a.levels.now c.slice_known-2-1.given));
     }

@@ -23,7 +23,7 @@ returns c =
     returned samples_cut segments_cut split_from_answers call a.samples.now lent c.requires.whole
     (bytes-held a.starts.now c.slice_known-1.given, bytes-held a.levels.now c.slice_known-2-1.given)
     (split-from-cut a.max_segments a.p a.q a.table.now _ _) a.sample_items.now lists left made.result
-    (ap split_from_told made.ensures
+    (ap split_from_told made.ensures.outcome
     ∙ (λ i. call (c.read_i16s.ensures i) (segment_buffers (segments.ensures.starts_are i) (segments.ensures.levels_are i))))
     c.requires.samples_fit (c.requires.starts_fit, c.requires.levels_fit)
     (long.starts ∙ segments.auto.start_items ∙ c.requires.starts_fit, long.levels ∙ segments.auto.level_items ∙ c.requires.levels_fit)

@@ -9,7 +9,10 @@ pub returns-then-refusal-ne0 : goal.returns-then-refusal-ne0
 returns-then-refusal-ne0 c =
     let a = c.args in
     let r = c.split_from_refusal-refusal in
-    split-from-refused a.samples.now a.max_segments a.p a.q a.table.now (segment_buffers a.starts.now a.levels.now) r.result r.ensures c.if-refusal-ne0.true
+    record {
+      outcome = split-from-refused a.samples.now a.max_segments a.p a.q a.table.now (segment_buffers a.starts.now a.levels.now) r.result r.ensures c.if-refusal-ne0.true;
+      fit = λ z. absurd (c.if-refusal-ne0.true z);
+    }
 
 pub segments_at-segments-requires : goal.segments_at-segments-requires
 segments_at-segments-requires c =
@@ -32,4 +35,9 @@ returns c =
     let r = c.split_from_refusal-refusal in
     let k = c.smaller-count in
     let n = c.segments_at-segments in
-    split_done a.samples.now a.max_segments a.p a.q a.table.now (segment_buffers a.starts.now a.levels.now) (sym r.ensures ∙ c.if-refusal-ne0.false) k.result k.ensures n.result n.ensures (segment_buffers _ _) _ c.cut_back-loss.ensures
+    let lent = segment_buffers a.starts.now a.levels.now in
+    let ok = sym r.ensures ∙ c.if-refusal-ne0.false in
+    record {
+      outcome = split_done a.samples.now a.max_segments a.p a.q a.table.now lent ok k.result k.ensures n.result n.ensures (segment_buffers _ _) _ c.cut_back-loss.ensures;
+      fit = λ z. c.cut_back-loss.ensures.fit;
+    }
