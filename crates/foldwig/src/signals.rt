@@ -1,10 +1,10 @@
-// The calls in C on signals: each is the call over byte strings of the crate `byte_signals`.
+// The calls in C on signals: each is the call over byte strings of the crate `byte_signals`, with its clauses.
 
 ghost use Rattle.std.specs.Prelude.{◌≡◌};
 ghost use Rattle.coding.specs.Coding.{outcome};
 ghost use Rattle.path.specs.Model.{lists};
 ghost use Rattle.signal.specs.SignalPath.{path_buffers};
-ghost use Rattle.byte_signals.specs.Signals.{signal_strings, signal_path_bytes_of, split_strings, split_bytes_of};
+ghost use Rattle.byte_signals.specs.Signals.{signal_strings, signal_coding, path_coding, signal_path_bytes_of, split_strings, split_coding, split_bytes_of};
 
 use signal::{SignalPathResult, SplitResult};
 
@@ -21,12 +21,16 @@ pub extern "C" fn foldwig_signal_path(
     path_weights: &mut [u8],
     scratch: &mut [u8],
 ) -> SignalPathResult
-    ensures { outcome result
+    ensures outcome { outcome result
         (path_buffers
         (lists path_sizes.new path_losses.new path_weights.new)
         scratch.new)
         ≡ signal_path_bytes_of (signal_strings samples.now weights.now) max_segments min_segment_len
         (path_buffers
+        (lists path_sizes.old path_losses.old path_weights.old)
+        scratch.old) }
+    ensures held { signal_coding.Held (signal_strings samples.now weights.now)
+        × path_coding.Held (path_buffers
         (lists path_sizes.old path_losses.old path_weights.old)
         scratch.old) }
 {
@@ -59,13 +63,18 @@ pub extern "C" fn foldwig_split(
     path_weights: &mut [u8],
     scratch: &mut [u8],
 ) -> SplitResult
-    ensures { outcome result
+    ensures outcome { outcome result
         (split_strings
         starts.new levels.new
         (lists path_sizes.new path_losses.new path_weights.new)
         scratch.new)
         ≡ split_bytes_of (signal_strings samples.now weights.now) max_segments min_segment_len p q
         (split_strings
+        starts.old levels.old
+        (lists path_sizes.old path_losses.old path_weights.old)
+        scratch.old) }
+    ensures held { signal_coding.Held (signal_strings samples.now weights.now)
+        × split_coding.Held (split_strings
         starts.old levels.old
         (lists path_sizes.old path_losses.old path_weights.old)
         scratch.old) }
