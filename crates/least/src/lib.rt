@@ -24,21 +24,21 @@ pub const MAX_SEGMENTS: usize = 32;
 pub const SCRATCH_LEN: usize = 2 * (MAX_SAMPLES * (MAX_SEGMENTS - 1));
 
 // A start to search down from, no later one being better: the number of samples before the last segment, and that segment's own gain.
-#[derive(Drop)]
+#[derive(Clone, Copy)]
 struct Seed {
     own: u64,
     start: usize,
 }
 
 // A last segment: the number of samples before it, and the gain of it and of what stands before it.
-#[derive(Drop)]
+#[derive(Clone, Copy)]
 struct LastSegment {
     gain: u64,
     start: usize,
 }
 
 // What a search finds: a last segment, and the limit that the next search may begin with.
-#[derive(Drop)]
+#[derive(Clone, Copy)]
 struct Pick {
     gain: u64,
     start: usize,
