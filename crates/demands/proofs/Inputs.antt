@@ -40,7 +40,8 @@ use Rattle.report.proofs.Inputs.{report-cons, note-on}
 use Rattle.demands.proofs.Tried.{appended, path-sound, tried-or-skipped}
 use Rattle.demands.proofs.Reports.{note-without, form-without, all-below, weights-open, penalty-opens, each-without, text_of}
 use Rattle.demands.specs.Reports.{Each, lines_then, Weighing, weighing_lines, weights_in, Later, later_line, Lawful, later_text}
-use Rattle.demands.specs.Inputs.{Notes, OneLine, OpensEither, WaitsClaim, PrintedPathClaim, asks, Front, front_lines, FrontWeighed, FrontInOrder, printed_by, due_by, reached_by, state_after, front_end_text, first_checks, second_checks, weighing_checks, third_checks, line_checks, FrontClaim, FrontEndClaim, FrontUnendedClaim, RefusedLineClaim, Ending, ending_bytes, FrontEnds, EveryInput, TooLongClaim}
+use Rattle.demands.specs.Inputs.{Notes, OneLine, OpensEither, WaitsClaim, PrintedPathClaim, asks, Front, front_lines, FrontWeighed, FrontInOrder, printed_by, due_by, reached_by, state_after, front_end_text}
+use Rattle.demands.specs.Inputs.{first_checks, second_checks, weighing_checks, third_checks, line_checks, FrontClaim, FrontEndClaim, FrontUnendedClaim, RefusedLineClaim, Ending, ending_bytes, FrontEnds, EveryInput, TooLongClaim}
 
 -- What weights of a form pass, where there is one.
 form-passes : (ws : List ℕ) (k : ℕ) → 1 ≤ length ws → all_in_range ws ≡ true → fitting ws k ≡ true → refusal_of (form_checks ws k) ≡ 0
