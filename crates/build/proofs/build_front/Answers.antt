@@ -30,4 +30,4 @@ returns g c =
     (cleared k n t.sizes _ (omega (arith, stays.sizes, long.in_sizes)) (c.fill.ensures.after (λ y e. e)))
     (cleared k n t.losses _ (omega (arith, stays.losses, long.in_losses)) (c.fill-2.ensures.after (λ y e. e)))
     (cleared k n t.weights _ (omega (arith, stays.weights, long.in_weights)) (c.fill-3.ensures.after (λ y e. e)))
-    ∙ ap (λ (tests : ℕ). path_left path tests n t₀) f.ensures.counted
+    ∙ ap (λ (tests : ℕ). path_left path tests n t₀) {y = g.M.Method.tests (first_places n t₀) n} f.ensures.counted

@@ -1,12 +1,10 @@
 -- `build::build_with` meets its contract: refused, or copied and then built.
-use mathlib.Core.Path.{◌≡◌, ap, sym, subst, ◌∙◌}
+use mathlib.Core.Path.{ap, sym, subst, ◌∙◌}
 use lib.ListN.{length}
-use Rattle.path.specs.Model.{Lists, lists, lengths}
-use Rattle.path.specs.Refusal.{refusal_of}
+use Rattle.path.specs.Model.{Lists, lists}
 use Rattle.path.specs.declared.PathResult.{PathResult}
 use Rattle.path.specs.Append.{path_outcome, path_left}
 use Rattle.path.specs.Inner.{first_places}
-use Rattle.build.specs.Build.{build_checks}
 use Rattle.build.specs.Inner.{Fillable}
 use Rattle.build.proofs.Lists.{buildable}
 use Rattle.build.proofs.Cases.{with-refused, may-copy, may-fill-copied, with-done}

@@ -1,5 +1,5 @@
 -- `build::build_within` meets its contract: refused, or built where the models are.
-use mathlib.Core.Path.{◌≡◌, ap, sym, ◌∙◌}
+use mathlib.Core.Path.{ap, sym, ◌∙◌}
 use mathlib.Core.List.{List, [], ◌∷◌}
 use Prim.Native.Nat.{ℕ}
 use Rattle.path.specs.Model.{Lists, lists}

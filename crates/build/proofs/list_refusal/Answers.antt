@@ -1,10 +1,8 @@
 -- `build::list_refusal` meets its contract. The loop's invariant: the models before place i are good, and the last of those entered is
 -- the last entry of their path.
-use mathlib.Core.Path.{◌≡◌, sym, ◌∙◌}
-use mathlib.Core.Bool.{Bool}
+use mathlib.Core.Path.{sym, ◌∙◌}
 use native.Mathlib.Omega.{arith}
 use lib.ListN.{get_or}
-use Rattle.path.specs.Model.{lists}
 use Rattle.build.proofs.Lists.{judged-none, judged-lacks, judged-bad, judged-passed, judged-entered, judged-all}
 use Rattle.build.proofs.list_refusal.Goals as goal
 use Rattle.build.proofs.list_refusal.Goals.{then-not-passed_over, else-not-passed_over}
