@@ -1,16 +1,15 @@
 -- `signal::fill_path` meets its contract. The loop's invariant: the buffers hold the path of sizes 1 to i.
-use mathlib.Core.Path.{◌≡◌, refl, ap, sym, ◌∙◌}
-use mathlib.Core.Bool.{true}
+use mathlib.Core.Path.{refl, ap, sym, ◌∙◌}
 use Prim.Native.Nat.{◌+◌, ◌≤◌}
 use native.Mathlib.Omega.{arith}
 use lib.ListN.{get_or}
-use Rattle.path.specs.Model.{Model, Lists, model, lists, path_of}
+use Rattle.path.specs.Model.{Model, model, lists, path_of}
 use Rattle.path.specs.Inner.{Held, kept_of}
 use Rattle.path.proofs.Held.{set_model}
 use Rattle.path.specs.declared.Kept.{Kept}
 use Rattle.path.specs.declared.tally.Tally.{Tally}
 use Rattle.weights.specs.Weights.{weight_at}
-use Rattle.signal.specs.Signal.{loss_below, path_by}
+use Rattle.signal.specs.Signal.{path_by}
 use Rattle.signal.specs.Inner.{losses_in}
 use Rattle.signal.proofs.Paths.{held_start, turn-skipped, turn-may-try, turn-kept, turn-pushed}
 use Rattle.signal.proofs.fill_path.Goals as goal

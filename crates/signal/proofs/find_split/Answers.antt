@@ -7,7 +7,7 @@ use Rattle.std.proofs.lemmas.Result.{err_from_is_err_and}
 use Rattle.path.specs.Model.{lists}
 use Rattle.path.specs.Numbers.{number_of}
 use Rattle.signal.specs.Signal.{place_count}
-use Rattle.signal.specs.SignalPath.{PathBuffers, path_buffers, path_rooms}
+use Rattle.signal.specs.SignalPath.{path_buffers}
 use Rattle.signal.specs.Split.{SplitBuffers, split_buffers, split_rooms}
 use Rattle.signal.proofs.Inputs.{room-passed, room-from}
 use Rattle.signal.proofs.Cases.{split-by-input, split-by-penalty, split-by-room, split-passes, may-segment, split_done}

@@ -1,10 +1,10 @@
 -- `signal::make_path` meets its contract: the table, then the path of its losses.
-use mathlib.Core.Path.{◌≡◌, sym, subst}
+use mathlib.Core.Path.{subst}
 use mathlib.Core.List.{List}
 use Prim.Native.Nat.{ℕ, ◌≤◌, ◌<◌, min}
 use native.Mathlib.Omega.{arith}
 use lib.IntN.{ℤ}
-use lib.ListN.{length, get_or, take}
+use lib.ListN.{length, get_or}
 use lib.Seq.{length-take-le}
 use Rattle.path.specs.Model.{Model, lists}
 use Rattle.path.specs.Refusal.{max_loss}
@@ -15,7 +15,6 @@ use Rattle.least.proofs.Counts.{count-bounds, count_most}
 use Rattle.signal.specs.SignalPath.{path_buffers}
 use Rattle.signal.specs.Inner.{PathWritten}
 use Rattle.signal.proofs.Paths.{front-path, front-from, solved}
-use Rattle.std.proofs.Common.{rules}
 use Rattle.signal.proofs.make_path.Goals as goal
 use Rattle.signal.proofs.make_path.Goals.{After-fill_table-count}
 
