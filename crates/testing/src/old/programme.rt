@@ -2,10 +2,10 @@
 // the rules alone, and nothing here is taken from the calls that are tested. The cell for k segments over the first j
 // samples is at place 513 k + j of a table. Samples and levels are raised.
 
-use crate::list::{at, put};
-use crate::number::{NONE, divide, fault, minus, plus, times};
-use crate::segmentation;
-use crate::segmentation::{Segmentation, loss_at, with_segment};
+use crate::old::list::{at, put};
+use crate::old::number::{NONE, divide, fault, minus, plus, times};
+use crate::old::segmentation;
+use crate::old::segmentation::{Segmentation, loss_at, with_segment};
 
 // The number of cells of a table.
 pub const CELLS: usize = 16929;

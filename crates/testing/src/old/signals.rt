@@ -1,8 +1,8 @@
 // Random signals of many kinds, raised.
 
-use crate::list::put;
-use crate::number::{minus, plus, times};
-use crate::random::{below, next};
+use crate::old::list::put;
+use crate::old::number::{minus, plus, times};
+use crate::old::random::{below, next};
 
 // The number of kinds of long signals.
 pub const KINDS: u64 = 12;

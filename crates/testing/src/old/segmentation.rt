@@ -1,8 +1,8 @@
 // A segmentation that is right. Samples and levels are raised. Nothing here is taken from the calls that are tested.
 
-use crate::list::{MARK, at, count_up, fill, put};
-use crate::number::{NONE, minus, plus, times};
-use crate::search::put_path;
+use crate::old::list::{MARK, at, count_up, fill, put};
+use crate::old::number::{NONE, minus, plus, times};
+use crate::old::search::put_path;
 
 // The number of segments, their loss, their starts, counted from 1, and their levels, with marks after these.
 #[derive(Clone, Copy)]
