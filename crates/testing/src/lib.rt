@@ -6,7 +6,10 @@
 pub mod answer;
 pub mod lists;
 pub mod old;
+pub mod programme;
 pub mod random;
 pub mod sample;
 pub mod search;
+pub mod segmentation;
+pub mod signals;
 pub mod text;

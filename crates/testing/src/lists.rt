@@ -1,7 +1,6 @@
 // Models, and the three lists of sizes, losses and weights in which the calls take and give them.
 
-use std::array;
-use std::fmt;
+use std::{array, fmt};
 
 // What the buffers of a test hold before a call, which is no size, no loss and no weight.
 pub const MARK: u64 = 99999999999999;
