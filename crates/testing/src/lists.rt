@@ -1,5 +1,6 @@
 // Models, and the three lists of sizes, losses and weights in which the calls take and give them.
 
+use path::storage::Columns;
 use std::{array, fmt};
 
 // What the buffers of a test hold before a call, which is no size, no loss and no weight.
@@ -11,6 +12,12 @@ pub struct Model {
     pub size: u64,
     pub loss: u64,
     pub weight: u64,
+}
+
+impl Model {
+    pub fn new(size: u64, loss: u64, weight: u64) -> Self {
+        Model { size, loss, weight }
+    }
 }
 
 impl fmt::Display for Model {
@@ -102,8 +109,26 @@ impl<const N: usize> Lists<N> {
         self.weights[..n].fill(0);
     }
 
-    // The first places of each list, where there are so many.
-    pub fn first(&mut self, rooms: Rooms) -> Option<(&mut [u64], &mut [u64], &mut [u64])> {
+    // All of them, to be read.
+    pub fn columns(&self) -> Columns<'_> {
+        Columns {
+            sizes: &self.sizes,
+            losses: &self.losses,
+            weights: &self.weights,
+        }
+    }
+
+    // The first places of each list, to be read, where there are so many.
+    pub fn first(&self, rooms: Rooms) -> Option<Columns<'_>> {
+        Some(Columns {
+            sizes: self.sizes.get(..rooms.sizes)?,
+            losses: self.losses.get(..rooms.losses)?,
+            weights: self.weights.get(..rooms.weights)?,
+        })
+    }
+
+    // The first places of each list, to be lent to a call that writes, where there are so many.
+    pub fn lend(&mut self, rooms: Rooms) -> Option<(&mut [u64], &mut [u64], &mut [u64])> {
         Some((
             self.sizes.get_mut(..rooms.sizes)?,
             self.losses.get_mut(..rooms.losses)?,
@@ -121,7 +146,25 @@ impl<const N: usize> Lists<N> {
     }
 }
 
+impl<'a, const N: usize> From<Columns<'a>> for Lists<N> {
+    // Lists with these at the front, as far as there are places, and else as before a call.
+    fn from(front: Columns<'a>) -> Self {
+        let mut made = Lists::marks();
+        copy(front.sizes, &mut made.sizes);
+        copy(front.losses, &mut made.losses);
+        copy(front.weights, &mut made.weights);
+        made
+    }
+}
+
+// Copies a list to the front of another, as far as both go.
+fn copy(from: &[u64], to: &mut [u64]) {
+    for (place, value) in to.iter_mut().zip(from) {
+        *place = *value;
+    }
+}
+
 // The number of places at which two lists differ, as far as both go.
-pub fn differences(found: &[u64], right: &[u64]) -> usize {
+pub fn differences<T: PartialEq>(found: &[T], right: &[T]) -> usize {
     found.iter().zip(right).filter(|(a, b)| a != b).count()
 }
