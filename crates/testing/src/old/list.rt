@@ -3,7 +3,7 @@
 
 ghost use Rattle.std.specs.Prelude.{◌≤◌};
 
-use crate::number::{NONE, differs, minus, plus};
+use crate::old::number::{NONE, differs, minus, plus};
 
 // What the buffers of a test hold before a call, which is no size, no loss and no weight.
 pub const MARK: u64 = 99999999999999;
