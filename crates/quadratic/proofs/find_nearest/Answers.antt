@@ -13,7 +13,7 @@ loop-i-init c = let t = lists_of c.args.models.now in nearest-first t (model_at 
 pub is_nearer-requires : goal.is_nearer-requires
 is_nearer-requires c =
     let l = c.loop-i in
-    comparable (lists_of c.args.models.now) c.args.at c.requires.1 l.best l.i l.invariant.inside c.loop-i-test.true c.entry_at.ensures c.entry_at-2.ensures c.entry_at-e.ensures
+    comparable (lists_of c.args.models.now) c.args.at c.requires.1 l.best l.i l.invariant.inside c.loop-i-test.true c.entry_at.ensures c.entry_at-in-loop-i.ensures c.entry_at-e.ensures
 
 pub loop-i-preserved : goal.loop-i-preserved
 loop-i-preserved c =
@@ -21,7 +21,7 @@ loop-i-preserved c =
     let t = lists_of c.args.models.now in
     let e = model_at t c.args.at in
     let d₀ = c.entry_at.ensures in
-    let d₁ = c.entry_at-2.ensures in
+    let d₁ = c.entry_at-in-loop-i.ensures in
     let is = c.entry_at-e.ensures in
     let told : below (breakpoint (model_at t l.i) e) (breakpoint (model_at t l.best) e) ≡ c.is_nearer.result = sym (c.is_nearer.ensures ∙ (λ j. below (breakpoint (d₁ j) (is j)) (breakpoint (d₀ j) (is j)))) in
     elim c.if-is_nearer.branch [

@@ -1,26 +1,36 @@
-use Rattle.std.proofs.Common.{rules, ◌≡◌, ◌+◌, ◌<◌, ◌∷◌, [], ℕ, ◌-◌, ◌*◌, ◌≤◌, length, ◌/◌, ◌%◌, Bool, true, false, nat_eq, nat_lt, List, ◌++◌, slice_index_or, slice_set, bit_and, bit_or, Fits, w8, w32, w64, Bor, MutBor}
-use Rattle.path.specs.Model.{lists, model_at, path_of}
-use Rattle.path.specs.Update.{below, breakpoint, tried}
-use Rattle.path.specs.Append.{path_outcome}
-use Rattle.path.specs.Inner.{first_places, model_of, Comparable, Held}
-use Rattle.build.specs.Inner.{lists_of, Fillable}
-use Rattle.quadratic.specs.Quadratic.{quadratic, quadratic_of, build_by}
-use Rattle.quadratic.specs.Inner.{Listed, NearestAt, AtEnd, within_by}
-use Rattle.quadratic.specs.Laws.{quadratic-few}
+-- `quadratic::walk_down` meets its contract. The loop's invariant: the entries found lie at the end of the places, the one found last
+-- stood at place `at`, and the models before it are as they were.
+use mathlib.Core.Path.{sym, subst}
+use Prim.Native.Nat.{◌-◌}
+use native.Mathlib.Omega.{arith}
+use Rattle.path.specs.Model.{Model, Lists, lists}
+use Rattle.path.proofs.Held.{set_model}
+use Rattle.quadratic.proofs.Descents.{Descended, descended-none, still-listed, descended-all, descended-more}
 use Rattle.quadratic.proofs.walk_down.Goals as goal
 
--- src/lib.rt:86:5
 pub loop-at-init : goal.loop-at-init
-loop-at-init c = ?
+loop-at-init c =
+    let a = c.args in
+    descended-none (lists a.sizes.now a.losses.now a.weights.now) a.n c.requires (a.n - 1) (omega (arith, c.requires.some))
 
--- src/lib.rt:92:13
 pub find_nearest-next-requires : goal.find_nearest-next-requires
-find_nearest-next-requires c = ?
+find_nearest-next-requires c =
+    let a = c.args in
+    let l = c.loop-at in
+    (c.loop-at-test.true, still-listed (lists a.sizes.now a.losses.now a.weights.now) a.n c.requires (lists l.sizes l.losses l.weights) l.at l.first l.invariant)
 
--- src/lib.rt:86:5
 pub loop-at-preserved : goal.loop-at-preserved
-loop-at-preserved c = ?
+loop-at-preserved c =
+    let a = c.args in
+    let l = c.loop-at in
+    let t₀ : Lists = lists a.sizes.now a.losses.now a.weights.now in
+    let t : Lists = lists l.sizes l.losses l.weights in
+    let next = c.find_nearest-next in
+    subst (λ (m : Model). Descended t₀ (set_model t (l.first - 1) m) a.n next.result (l.first - 1)) (sym c.entry_at-entry.ensures)
+    (descended-more t₀ a.n c.requires t l.at l.first l.invariant next.result next.ensures (l.first - 1) (omega (arith, c.loop-at-test.true, l.invariant.above)))
 
--- src/lib.rt:75:1
 pub returns : goal.returns
-returns c = ?
+returns c =
+    let a = c.args in
+    let l = c.loop-at in
+    descended-all (lists a.sizes.now a.losses.now a.weights.now) a.n c.requires (lists l.sizes l.losses l.weights) l.at l.first l.invariant (omega arith)
