@@ -1,9 +1,8 @@
 -- `build::Linear::fill` meets its contract. The loop's invariant: the lists hold the path of the first i models, and from place i on they
 -- are as they were, so that the models to come still stand there.
-use mathlib.Core.Path.{◌≡◌, ap, sym, subst, ◌∙◌}
+use mathlib.Core.Path.{ap, sym, subst, ◌∙◌}
 use Prim.Native.Nat.{ℕ, ◌≤◌}
 use native.Mathlib.Omega.{arith}
-use lib.ListN.{length}
 use Rattle.path.specs.Model.{lists}
 use Rattle.path.specs.Inner.{first_places}
 use Rattle.path.specs.declared.tally.Tally.{Tally}
