@@ -43,7 +43,8 @@ pub slice_bounds-fill-end : goal.slice_bounds-fill-end
 slice_bounds-fill-end g c =
     let a = c.args in
     let b = a.bytes.now in
-    omega (arith, c.max.ensures, c.put.auto.bytes, store-end g.row.W b a.kept a.n 0 c.requires (bytes-held b c.slice_known-1.given) c.max.result c.max.ensures)
+    let inside = store-inside g.row.W b a.kept a.n 0 c.requires (bytes-held b c.slice_known-1.given) in
+    omega (arith, c.max.ensures, c.put.auto.bytes, inside (a.kept + 1) (omega (arith, c.requires.inside)), inside a.n c.requires.room)
 
 pub returns : goal.returns
 returns g c =
