@@ -39,15 +39,14 @@ write_path-requires c =
     let some = (count-bounds n s.min_segment_len s.max_segments t.result r.one_sample r.enough r.one t.ensures.0).0 in
     let most = count_most n s.min_segment_len s.max_segments t.result t.ensures.0 in
     let buffers = lists a.path_sizes.now a.path_losses.now a.path_weights.now in
-    let fits = places-fewer buffers (min s.max_segments n) places.result c.requires.room.fits (omega (arith, most, places.ensures)) in
     let l = listed (goal.at.write_path-requires c).After-fill_table-count in
     record {
       losses_from = front-from a.weights.now t.new.losses t.result buffers l some (omega (arith, most, r.few))
-          (places-fewer buffers places.result t.result fits (omega (arith, most, places.ensures))) (first-loss t.ensures.1 some)
+          (places-fewer buffers (min s.max_segments n) t.result c.requires.room.fits (omega (arith, most))) (first-loss t.ensures.1 some)
           (subst (Weighable a.weights.now) (sym t.ensures.0) c.requires.weighable);
       within = omega (arith, most, places.ensures, length-take-le t.result t.new.losses l);
       few = omega (arith, most, places.ensures, r.few);
-      fits = fits;
+      fits = places-fewer buffers (min s.max_segments n) _ c.requires.room.fits (omega (arith, most, places.ensures));
     }
 
 pub returns : goal.returns
