@@ -1,5 +1,5 @@
 -- `models::append` meets its contract: refused, or accepted, with the entry stored where the model is not passed over.
-use mathlib.Core.Path.{◌≡◌, refl, ap, sym, ◌∙◌}
+use mathlib.Core.Path.{refl, ap, sym}
 use native.Mathlib.Omega.{arith}
 use lib.ListN.{length-map}
 use Rattle.std.proofs.lemmas.Result.{err_from_is_err_and}

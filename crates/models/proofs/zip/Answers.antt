@@ -2,7 +2,7 @@ use mathlib.Core.Path.{◌≡◌, refl, ap, ◌∙◌}
 use mathlib.Core.List.{List, map}
 use Prim.Native.Nat.{ℕ}
 use native.Mathlib.Omega.{arith}
-use lib.ListN.{length, get_or, set, take}
+use lib.ListN.{length, get_or, take}
 use Rattle.path.specs.Model.{lists}
 use Rattle.path.specs.Buffer.{overwritten}
 use Rattle.path.specs.declared.storage.Entry.{Entry}
