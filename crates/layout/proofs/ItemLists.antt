@@ -181,8 +181,15 @@ pub items-low : (k : ℕ) (bytes : List ℕ) (n : ℕ) → Bytes bytes → Below
 items-low k bytes n b i h =
     let l : i < n = omega (arith, length-items k bytes n) in rw (get_or-items k bytes n i l) (item-low k bytes (k * i) b)
 
+-- The bytes of the first i items.
+pub front-bytes : (k : ℕ) (xs : List ℕ) (i : ℕ) → i ≤ length xs → take (k * i) (bytes_of k xs) ≡ bytes_of k (take i xs)
+front-bytes k xs i h =
+    ap (λ (ys : List ℕ). take (k * i) (bytes_of k ys)) (sym (take-append-drop i xs))
+    ∙ ap (take (k * i)) (bytes-append k (take i xs) (drop i xs))
+    ∙ take_at (bytes_of k (take i xs)) (bytes_of k (drop i xs)) (k * i) (length-bytes k (take i xs) ∙ ap (λ (n : ℕ). k * n) (length-take-le i xs h))
+
 -- The bytes of the items from the i-th on.
-rest-bytes : (k : ℕ) (xs : List ℕ) (i : ℕ) → i ≤ length xs → drop (k * i) (bytes_of k xs) ≡ bytes_of k (drop i xs)
+pub rest-bytes : (k : ℕ) (xs : List ℕ) (i : ℕ) → i ≤ length xs → drop (k * i) (bytes_of k xs) ≡ bytes_of k (drop i xs)
 rest-bytes k xs i h =
     ap (λ (ys : List ℕ). drop (k * i) (bytes_of k ys)) (sym (take-append-drop i xs))
     ∙ ap (drop (k * i)) (bytes-append k (take i xs) (drop i xs))
