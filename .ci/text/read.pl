@@ -5,7 +5,7 @@
 #   library, what stands outside functions and names a tally, and a digest of every function that names a tally, a type that holds one,
 #   or a function that takes or answers one.
 # - older: which functions each function of the crate `quadratic` calls, and these in turn, with the types that they are told. Then
-#   digests of the older method itself.
+#   what stands outside its functions, and digests of the older method itself.
 # A function of an impl or of a trait goes by its type or its trait: `path::PathResult::from`, `build::Method::fill`. Where a type parameter
 # stands before a name, as in `M::fill`, it is the function of the trait that bounds it, and which code runs is told by the type: so both
 # lists begin with the impls of the library's traits.
@@ -189,7 +189,7 @@ sub meaning {
     return join '::', $module =~ s/::\w+$//r, @others if $first eq 'super';
     my $used = $in_use || !$uses{$module}{$first} ? '' : meaning($module, $uses{$module}{$first}, 1);
     return join '::', $used, @others if $used && !(@others && $functions{$used});
-    return "${module}::$path" if !@others || $modules{$module}{$first} || $types{$module}{$first};
+    return "${module}::$path" if !@others || $modules{$module}{$first} || defined $types{$module}{$first};
     return $path;
 }
 
@@ -203,7 +203,7 @@ sub named {
     while ($text =~ /(?:(\.)|(?<![\w.]))((?:\w+(?:::<(?:[^<>]|<[^<>]*>)*>)?::)*[A-Za-z_]\w*)(::<(?:[^<>]|<[^<>]*>)*>)?(\s*\()?/g) {
         my ($point, $path, $told, $called) = ($1, $2, $3 // '', $4);
         $path =~ s/::<(?:[^<>]|<[^<>]*>)*>//g;
-        next if $path =~ /^(?:if|while|match|return|in|else|let|break|as|mut)$/;
+        next if $path =~ /^(?:if|while|match|return|in|else|let|break|as|mut|for|Ok|Err|Some|None)$/;
         if ($point) { push @found, ".$path" if $called && $path ne 'len'; next }
         $path =~ s/^([A-Z]\w*)(?=::)/$bound{$1}/ if $path =~ /^([A-Z]\w*)::/ && $bound{$1};
         my $key = meaning($module, $path);
@@ -284,6 +284,7 @@ sub list_older {
         push @sections, ["$key calls:", sort keys %calls];
         push @next, sort map { s/::<.*//r } keys %calls;
     }
+    push @sections, ['outside its functions quadratic has:', map { s/^ +//r } statements($outside{quadratic}{text})];
     push @sections, as_read(grep { $functions{$_} } map { "quadratic::$_" } qw(build_by build_quadratic build_within drop_passed find_nearest is_nearer walk_down Quadratic::fill));
 }
 
