@@ -35,3 +35,8 @@ impl fmt::Display for Answer {
         )
     }
 }
+
+// How many of some facts do not hold.
+pub fn faults(facts: &[bool]) -> u64 {
+    facts.iter().filter(|holds| !**holds).count() as u64
+}

@@ -157,6 +157,17 @@ impl<'a, const N: usize> From<Columns<'a>> for Lists<N> {
     }
 }
 
+impl<'a, const N: usize> From<&'a [Model]> for Lists<N> {
+    // Lists with these models at the front, as far as there are places, and else as before a call.
+    fn from(models: &'a [Model]) -> Self {
+        let mut made = Lists::marks();
+        for (i, model) in models.iter().enumerate() {
+            made.put(i, *model);
+        }
+        made
+    }
+}
+
 // Copies a list to the front of another, as far as both go.
 fn copy(from: &[u64], to: &mut [u64]) {
     for (place, value) in to.iter_mut().zip(from) {
