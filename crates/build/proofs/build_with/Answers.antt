@@ -10,7 +10,8 @@ use Rattle.path.specs.Inner.{other_places}
 use Rattle.path.proofs.Numbers.{number_some}
 use Rattle.path.proofs.PathCuts.{path_longer}
 use Rattle.build.specs.Inner.{lists_of, Fillable}
-use Rattle.build.proofs.Cases.{with-refused, fitting, may-fill, with-done}
+use Rattle.build.proofs.Cases.{with-refused, may-fill, with-done}
+use Rattle.build.proofs.BuildCuts.{fitting}
 use Rattle.build.proofs.build_with.Goals as goal
 
 pub returns-in_err-check_build : goal.returns-in_err-check_build
@@ -21,38 +22,38 @@ returns-in_err-check_build g c =
     rw (p.1, p.2)
     (with-refused m.path m.tests (lists_of a.given.now) (lists a.path_sizes.now a.path_losses.now a.path_weights.now) _ c.in_err-check_build.ensures (number_some c.in_err-check_build.field-0.0))
 
-pub slice_bounds-sizes-end : goal.slice_bounds-sizes-end
-slice_bounds-sizes-end g c =
+pub slice_bounds-path_sizes-end : goal.slice_bounds-path_sizes-end
+slice_bounds-path_sizes-end g c =
     let a = c.args in
     let fit = fitting (lists_of a.given.now) (lists a.path_sizes.now a.path_losses.now a.path_weights.now) (sym c.in_ok-check_build.ensures) in
     omega (arith, fit.sizes, fit.room.in_sizes)
 
-pub slice_bounds-sizes-end-2 : goal.slice_bounds-sizes-end-2
-slice_bounds-sizes-end-2 g c =
+pub slice_bounds-path_sizes-end-2 : goal.slice_bounds-path_sizes-end-2
+slice_bounds-path_sizes-end-2 g c =
     let a = c.args in
     let fit = fitting (lists_of a.given.now) (lists a.path_sizes.now a.path_losses.now a.path_weights.now) (sym c.in_ok-check_build.ensures) in
     sym (length-take-le _ _ (omega (arith, fit.sizes, fit.room.in_sizes)))
 
-pub slice_bounds-losses-end : goal.slice_bounds-losses-end
-slice_bounds-losses-end g c =
+pub slice_bounds-path_losses-end : goal.slice_bounds-path_losses-end
+slice_bounds-path_losses-end g c =
     let a = c.args in
     let fit = fitting (lists_of a.given.now) (lists a.path_sizes.now a.path_losses.now a.path_weights.now) (sym c.in_ok-check_build.ensures) in
     omega (arith, fit.sizes, fit.room.in_losses)
 
-pub slice_bounds-losses-end-2 : goal.slice_bounds-losses-end-2
-slice_bounds-losses-end-2 g c =
+pub slice_bounds-path_losses-end-2 : goal.slice_bounds-path_losses-end-2
+slice_bounds-path_losses-end-2 g c =
     let a = c.args in
     let fit = fitting (lists_of a.given.now) (lists a.path_sizes.now a.path_losses.now a.path_weights.now) (sym c.in_ok-check_build.ensures) in
     sym (length-take-le _ _ (omega (arith, fit.sizes, fit.room.in_losses)))
 
-pub slice_bounds-weights-end : goal.slice_bounds-weights-end
-slice_bounds-weights-end g c =
+pub slice_bounds-path_weights-end : goal.slice_bounds-path_weights-end
+slice_bounds-path_weights-end g c =
     let a = c.args in
     let fit = fitting (lists_of a.given.now) (lists a.path_sizes.now a.path_losses.now a.path_weights.now) (sym c.in_ok-check_build.ensures) in
     omega (arith, fit.sizes, fit.room.in_weights)
 
-pub slice_bounds-weights-end-2 : goal.slice_bounds-weights-end-2
-slice_bounds-weights-end-2 g c =
+pub slice_bounds-path_weights-end-2 : goal.slice_bounds-path_weights-end-2
+slice_bounds-path_weights-end-2 g c =
     let a = c.args in
     let fit = fitting (lists_of a.given.now) (lists a.path_sizes.now a.path_losses.now a.path_weights.now) (sym c.in_ok-check_build.ensures) in
     sym (length-take-le _ _ (omega (arith, fit.sizes, fit.room.in_weights)))

@@ -4,7 +4,6 @@ use mathlib.Core.Path.{ap, sym, subst, ◌∙◌}
 use Prim.Native.Nat.{ℕ, ◌≤◌}
 use native.Mathlib.Omega.{arith}
 use Rattle.path.specs.Model.{lists}
-use Rattle.path.specs.Inner.{first_places}
 use Rattle.path.specs.declared.tally.Tally.{Tally}
 use Rattle.build.specs.Inner.{BuiltIn}
 use Rattle.build.proofs.Steps.{built-none, turn-may-try, turn-within, turn-passed, turn-pushed}
