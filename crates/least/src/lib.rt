@@ -4,7 +4,7 @@
 // at least `min_segment_len` samples each.
 #![tactic(auto)]
 
-ghost use Rattle.std.specs.Prelude.{◌≡◌, ◌++◌, ℕ, min, ◌+◌, ◌/◌, ◌<◌, length, drop};
+ghost use Rattle.std.specs.Prelude.{◌≡◌, ◌++◌, ℕ, min, max, ◌+◌, ◌/◌, ◌<◌, length, drop};
 ghost use Rattle.segment.specs.Inner.{SquaresAre};
 ghost use Rattle.least.specs.Segmentation.{starts_of, levels_of, chosen_of};
 ghost use Rattle.least.specs.Inner.{Limited, LimitAt, LeftFrom, LeftAt, SeedFrom, Seeded, Picked, SearchFrom, PickFrom, Found};
@@ -102,7 +102,7 @@ impl<'a> Search<'a> {
         if rest <= self.row[i] {
             return low;
         }
-        let next = low.max(i - (self.signal.min_segment_len - 1));
+        let next = later(low, i - (self.signal.min_segment_len - 1));
         if self.signal.squares[i] < rest + self.floors[next] {
             return i;
         }
@@ -193,6 +193,14 @@ impl<'a> Search<'a> {
         let last = self.down_from(seed);
         Pick { last, right: limit }
     }
+}
+
+// The later of two places.
+// Stays: `max` becomes a move on a condition, and with it 512 alternating samples take 1.16 times as long at the least length 8.
+fn later(a: usize, b: usize) -> usize
+    ensures { result ≡ max a b }
+{
+    if a < b { b } else { a }
 }
 
 // The gains of m + 2 segments from those of m + 1, and row m of the table of starts. Each search begins at the start found for the end

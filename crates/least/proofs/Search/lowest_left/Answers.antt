@@ -5,11 +5,11 @@ use Rattle.least.proofs.Search.lowest_left.Goals as goal
 
 pub overflow_add-rest : goal.overflow_add-rest
 overflow_add-rest c =
-    let e = c.max-next.ensures in
-    record { fits = omega (arith, floor-low c.args.self.now.ready c.requires {next = c.max-next.result} (omega arith) (omega (arith, c.requires.below)), c.requires.goal_low) }
+    let e = c.later-next.ensures in
+    record { fits = omega (arith, floor-low c.args.self.now.ready c.requires {next = c.later-next.result} (omega arith) (omega (arith, c.requires.below)), c.requires.goal_low) }
 
 pub returns-then-self-i : goal.returns-then-self-i
-returns-then-self-i c = left-none c.args.self.now.ready c.requires c.max-next.ensures (omega arith) (omega arith)
+returns-then-self-i c = left-none c.args.self.now.ready c.requires c.later-next.ensures (omega arith) (omega arith)
 
 pub returns : goal.returns
-returns c = left-next c.args.self.now.ready c.requires c.max-next.ensures (omega arith)
+returns c = left-next c.args.self.now.ready c.requires c.later-next.ensures (omega arith)
