@@ -2,14 +2,8 @@
 use native.Mathlib.Omega.{arith}
 use Rattle.weights.proofs.Steps.{sizes-weigh}
 use Rattle.stream.proofs.Steps.{read-path}
-use Rattle.weights.proofs.Steps.{sizes-weigh}
 use Rattle.std.proofs.Common.{rules}
 use Rattle.stream.proofs.column_path.Goals as goal
-
-pub read_column-requires : goal.read_column-requires
-read_column-requires c =
-    let p = c.requires.0 in
-    (record { few = omega arith; one = p.one; within = p.within; long = p.long }, (p.few, search rules))
 
 pub write_path-requires : goal.write_path-requires
 write_path-requires c =
@@ -22,7 +16,7 @@ write_path-requires c =
         listed = search rules;
         fits = fits;
         weighable = sizes-weigh count (omega (arith, p.few));
-        first_low = omega (arith, c.read_column.ensures 0 p.some, p.first_low);
+        first_low = omega (arith, c.read_column.ensures 0 (search rules), p.first_low);
       };
       within = omega arith;
       few = omega (arith, p.few);
@@ -32,4 +26,4 @@ write_path-requires c =
 pub returns : goal.returns
 returns c =
     let a = c.args in
-    read-path a.table.now c.read_column.new.losses a.j c.read_column.ensures c.write_path.ensures
+    read-path a.table.bytes.now _ a.j (λ m u. c.read_column.ensures m (search rules)) c.write_path.ensures
