@@ -63,12 +63,12 @@ module _ (a : Lists) where
         rw (is, add-one i, o) (rw (add-one i) at put)
 
 -- One turn in the lists that hold the models: that of place i is looked at where it stands.
-module _ {t₀ t : Lists} {count n i : ℕ} (h : Held (triedTo (first_places count t₀) i) t₀ t n i) (turn : i < count) where
-  is-next : model_at t i ≡ model_at (first_places count t₀) i
-  is-next = still-model (triedTo (first_places count t₀) i) t₀ t n i count h turn
+module _ {t₀ t : Lists} {count n i : ℕ} (h : Held (triedTo (first_places count t₀) i) t₀ t n i) (turn : i < count) {m : Model} (here : m ≡ model_at t i) where
+  is-next : m ≡ model_at (first_places count t₀) i
+  is-next = here ∙ still-model (triedTo (first_places count t₀) i) t₀ t n i count h turn
 
-  pub turn-dropped : passed_over (path_of t n) (model_at t i) ≡ true → Held (triedTo (first_places count t₀) (i + 1)) t₀ t n (i + 1)
-  turn-dropped = dropped-one (first_places count t₀) t₀ t n i h (model_at t i) is-next
+  pub turn-dropped : passed_over (path_of t n) m ≡ true → Held (triedTo (first_places count t₀) (i + 1)) t₀ t n (i + 1)
+  turn-dropped = dropped-one (first_places count t₀) t₀ t n i h m is-next
 
-  pub turn-kept : Fillable t₀ count → passed_over (path_of t n) (model_at t i) ≡ false → Held (triedTo (first_places count t₀) (i + 1)) t₀ (set_model t n (model_at t i)) (n + 1) (i + 1)
-  turn-kept ok = kept-one (first_places count t₀) t₀ t n i h (model_at t i) is-next ok turn
+  pub turn-kept : Fillable t₀ count → passed_over (path_of t n) m ≡ false → Held (triedTo (first_places count t₀) (i + 1)) t₀ (set_model t n m) (n + 1) (i + 1)
+  turn-kept ok = kept-one (first_places count t₀) t₀ t n i h m is-next ok turn

@@ -1,7 +1,6 @@
 -- `quadratic::drop_passed` meets its contract. The loop's invariant: the lists hold those of the first i models that are not passed over,
 -- and from place i on they are as they were, so that the models to come still stand there.
 use mathlib.Core.Path.{sym, ◌∙◌}
-use lib.ListN.{get_or}
 use Rattle.path.specs.Model.{lists}
 use Rattle.path.specs.Inner.{first_places}
 use Rattle.quadratic.proofs.Dropped.{dropped-none, turn-dropped, turn-kept}
@@ -17,10 +16,11 @@ loop-i-init c =
 pub loop-i-preserved : goal.loop-i-preserved
 loop-i-preserved c =
     let l = c.loop-i in
-    let over = c.passed_over.ensures l.sizes l.weights (get_or l.sizes l.i 0) (get_or l.weights l.i 0) in
+    let new = c.entry_at-new.result in
+    let over = c.passed_over.ensures l.sizes l.weights new.size new.weight in
     elim c.if-not-passed_over.branch [
       | then-not-passed_over w ↦ rw (w.sizes-is, w.losses-is, w.weights-is, w.kept-is)
-          (turn-kept l.invariant c.loop-i-test.true c.requires (sym over ∙ w.if-not-passed_over.true))
+          (turn-kept l.invariant c.loop-i-test.true c.entry_at-new.ensures c.requires (sym over ∙ w.if-not-passed_over.true))
       | else-not-passed_over w ↦ rw (w.sizes-is, w.losses-is, w.weights-is, w.kept-is)
-          (turn-dropped l.invariant c.loop-i-test.true (sym over ∙ w.if-not-passed_over.false))
+          (turn-dropped l.invariant c.loop-i-test.true c.entry_at-new.ensures (sym over ∙ w.if-not-passed_over.false))
     ]

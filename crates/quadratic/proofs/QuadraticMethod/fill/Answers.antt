@@ -26,9 +26,9 @@ returns-clause-held c =
     let old : Lists = lists a.sizes.now a.losses.now a.weights.now in
     let models = path_of (first_places a.count old) a.count in
     let inside = w.ensures.inside in
-    let s = c.copy_within.ensures.after ∙ copied-front w.new.path_sizes w.result d.result (omega arith) (omega (arith, w.auto.path_sizes, d.auto.sizes, c.requires.fits.in_sizes, d.ensures.most)) in
-    let l = c.copy_within-2.ensures.after ∙ copied-front w.new.path_losses w.result d.result (omega arith) (omega (arith, w.auto.path_losses, d.auto.losses, c.requires.fits.in_losses, d.ensures.most)) in
-    let k = c.copy_within-3.ensures.after ∙ copied-front w.new.path_weights w.result d.result (omega arith) (omega (arith, w.auto.path_weights, d.auto.weights, c.requires.fits.in_weights, d.ensures.most)) in
+    let s = c.copy_within.ensures.after ∙ copied-front w.new.sizes w.result d.result (omega arith) (omega (arith, w.auto.sizes, d.auto.sizes, c.requires.fits.in_sizes, d.ensures.most)) in
+    let l = c.copy_within-2.ensures.after ∙ copied-front w.new.losses w.result d.result (omega arith) (omega (arith, w.auto.losses, d.auto.losses, c.requires.fits.in_losses, d.ensures.most)) in
+    let k = c.copy_within-3.ensures.after ∙ copied-front w.new.weights w.result d.result (omega arith) (omega (arith, w.auto.weights, d.auto.weights, c.requires.fits.in_weights, d.ensures.most)) in
     filled (tried models) old (lists d.new.sizes d.new.losses d.new.weights) d.result a.count d.ensures c.requires.fits
-    (lists w.new.path_sizes w.new.path_losses w.new.path_weights) w.result w.ensures (lists _ _ _)
+    (lists w.new.sizes w.new.losses w.new.weights) w.result w.ensures (lists _ _ _)
     (λ i. lists (s i) (l i) (k i))
