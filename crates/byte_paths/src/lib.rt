@@ -210,8 +210,12 @@ fn breakpoints_whole(
         ≡ breakpoints_encoded (strings_of models.now) entries
         (fractions numerators.old denominators.old) }
 {
-    let count =
-        select::check_breakpoints(models, entries, numerators.len() / 8, denominators.len() / 2)?;
+    let count = select::check_breakpoints(
+        models,
+        entries,
+        numerators.len() / 8,
+        denominators.len() / 2,
+    )?;
     write_breakpoints(models, count, numerators, denominators);
     Ok(count)
 }

@@ -1,5 +1,5 @@
 -- `byte_paths::append_whole` meets its contract: refused, or accepted, with the three items stored where the model is not passed over.
-use mathlib.Core.Path.{◌≡◌, refl, ap, sym, ◌∙◌}
+use mathlib.Core.Path.{refl, ap, sym, ◌∙◌}
 use Prim.Native.Nat.{◌+◌}
 use native.Mathlib.Omega.{arith}
 use Rattle.std.proofs.lemmas.Result.{err_from_is_err_and}
@@ -8,7 +8,6 @@ use Rattle.coding.specs.Coding.{outcome}
 use Rattle.coding.specs.Models.{models_coding}
 use Rattle.coding.proofs.Models.{models-held, models-back}
 use Rattle.coding.proofs.Calls.{encoded-refused, encoded-accepted}
-use Rattle.path.specs.declared.Kept.{Kept}
 use Rattle.path.specs.Model.{lists, path_of}
 use Rattle.path.specs.Update.{tests_made}
 use Rattle.path.specs.Numbers.{number_of}

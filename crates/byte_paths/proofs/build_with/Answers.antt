@@ -1,8 +1,8 @@
 -- `byte_paths::build_with` meets its contract: refused under 11, or the build in lists of as many items as are looked at.
-use mathlib.Core.Path.{◌≡◌, refl, ap, sym, ◌∙◌}
+use mathlib.Core.Path.{refl, ap, sym, ◌∙◌}
 use Prim.Native.Nat.{ℕ}
 use native.Mathlib.Omega.{arith}
-use Rattle.coding.specs.Coding.{Outcome, outcome}
+use Rattle.coding.specs.Coding.{outcome}
 use Rattle.coding.specs.Models.{models_coding}
 use Rattle.coding.proofs.Strings.{front_length}
 use Rattle.coding.proofs.Models.{fronts-fit}

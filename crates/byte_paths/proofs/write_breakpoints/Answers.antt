@@ -1,9 +1,8 @@
 -- `byte_paths::write_breakpoints` meets its contract. The loop's invariant: the strings spell the breakpoints of the first i + 1 entries.
-use mathlib.Core.Path.{◌≡◌, ap, subst, sym}
+use mathlib.Core.Path.{ap, subst, sym}
 use mathlib.Core.List.{List}
 use Prim.Native.Nat.{ℕ, ◌+◌}
 use native.Mathlib.Omega.{arith}
-use Rattle.path.specs.Update.{Fraction}
 use Rattle.coding.proofs.Strings.{bytes-held}
 use Rattle.byte_paths.specs.Inner.{WrittenIn}
 use Rattle.byte_paths.proofs.Spelt.{spelt-inside, spelt-none, spelt-more}
