@@ -1,35 +1,28 @@
--- The text of two numbers by its length, and the text of a level by its raised value.
-use mathlib.Core.Path.{◌≡◌, refl}
-use mathlib.Core.List.{[], ◌∷◌, ◌++◌}
-use Prim.Native.Nat.{ℕ, suc, ◌+◌, ◌-◌, ◌≤◌, ◌<◌}
-use native.Mathlib.Omega.{arith}
-use lib.IntN.{ℤ, pos, negsuc}
-use lib.ListN.{length, length-append}
-use lib.Signed.{mag}
-use Rattle.segment.specs.Inner.{raised}
-use Rattle.segment.proofs.Bounds.{fits-sample, raised-PN}
-use Rattle.segment.proofs.Integers.{P, N}
+-- The text of two numbers by its length, and the text of a level by its size.
+use Rattle.std.proofs.Common.{◌≡◌, refl, true, false, [], ◌∷◌, ◌++◌, ℕ, ◌+◌, ℤ, pos, negsuc, unsigned_abs, length, length-append, w16, FitsSigned, to_z, of_z, arith}
+use Rattle.std.specs.Int.Signed.{lt_z}
+use mir.Facts.{to_z-of_z}
+use borrow.Author.Tests.{ltb-true}
 use Rattle.text.specs.Text.{bytes, digits, whole_digits, two_text}
 
 pub two-length : (a b : ℕ) → length (two_text a b) ≡ length (digits a) + (1 + length (digits b))
 unfolding two_text bytes
 two-length a b = simp length-append (omega arith)
 
--- A level that is raised to less than 32,768 is below zero by the difference, and any other is above zero by it.
-module _ (z : ℤ) (h : mag z < 32768) where
-  pub level-below : raised z < 32768 → (45 ∷ []) ++ digits (32768 - raised z) ≡ whole_digits z
+-- A level of 16 bits by its size, with a minus where it is below zero.
+module _ (z : ℤ) (size : ℕ) (fit : FitsSigned w16 z) (e : size ≡ unsigned_abs (to_z w16 (of_z w16 z))) where
+  pub level-below : lt_z (to_z w16 (of_z w16 z)) (pos 0) ≡ true → (45 ∷ []) ++ digits size ≡ whole_digits z
   unfolding whole_digits
-  level-below k = by_sign z (raised-PN z (fits-sample z h)) k
+  level-below h = by-sign z (rw (to_z-of_z fit) at e) (rw (to_z-of_z fit) at h)
     where
-      by_sign : (y : ℤ) → P y + 32768 ≡ raised y + N y → raised y < 32768
-          → (45 ∷ []) ++ digits (32768 - raised y) ≡ whole_digits y
-      by_sign (pos n) e l = absurd (omega arith)
-      by_sign (negsuc n) e l = let m : 32768 - raised (negsuc n) ≡ suc n = omega arith in rw m refl
+      by-sign : (y : ℤ) → size ≡ unsigned_abs y → lt_z y (pos 0) ≡ true → (45 ∷ []) ++ digits size ≡ whole_digits y
+      by-sign (pos n) f k = absurd (omega (arith, ltb-true n 0 k))
+      by-sign (negsuc n) f k = rw f refl
 
-  pub level-above : 32768 ≤ raised z → digits (raised z - 32768) ≡ whole_digits z
+  pub level-above : lt_z (to_z w16 (of_z w16 z)) (pos 0) ≡ false → digits size ≡ whole_digits z
   unfolding whole_digits
-  level-above k = by_sign z (raised-PN z (fits-sample z h)) k
+  level-above h = by-sign z (rw (to_z-of_z fit) at e) (rw (to_z-of_z fit) at h)
     where
-      by_sign : (y : ℤ) → P y + 32768 ≡ raised y + N y → 32768 ≤ raised y → digits (raised y - 32768) ≡ whole_digits y
-      by_sign (pos n) e l = let m : raised (pos n) - 32768 ≡ n = omega arith in rw m refl
-      by_sign (negsuc n) e l = absurd (omega arith)
+      by-sign : (y : ℤ) → size ≡ unsigned_abs y → lt_z y (pos 0) ≡ false → digits size ≡ whole_digits y
+      by-sign (pos n) f k = rw f refl
+      by-sign (negsuc n) f k = cc

@@ -5,19 +5,18 @@ ghost use Rattle.text.specs.Text.{digits, whole_digits, two_text};
 ghost use Rattle.text.specs.Inner.{Put};
 
 // Writes a text.
+// Stays: output and place are two parameters, as a caller would know nothing of bytes written through a field (tried: no proof).
 pub fn put_text(output: &mut [u8], at: usize, text: &[u8]) -> usize
     requires { at + length text.now ≤ length output.old }
     ensures { Put text.now at output.old output.new result }
 {
-    let mut i = 0;
-    while i < text.len() {
-        output[at + i] = text[i];
-        i += 1;
-    }
-    at + i
+    let end = at + text.len();
+    output[at..end].copy_from_slice(text);
+    end
 }
 
 // Writes one byte.
+// Stays: output and place are two parameters, as a caller would know nothing of bytes written through a field (tried: no proof).
 pub fn put_byte(output: &mut [u8], at: usize, byte: u8) -> usize
     requires { at + length (byte ∷ []) ≤ length output.old }
     ensures { Put (byte ∷ []) at output.old output.new result }
@@ -27,6 +26,8 @@ pub fn put_byte(output: &mut [u8], at: usize, byte: u8) -> usize
 }
 
 // Writes a number in decimal.
+// Stays: output and place are two parameters, as a caller would know nothing of bytes written through a field (tried: no proof).
+// Stays: `Display` would print through a writer that holds the output, of which the same is so.
 pub fn put_number(output: &mut [u8], at: usize, n: u64) -> usize
     requires { at + length (digits n) ≤ length output.old }
     ensures { Put (digits n) at output.old output.new result }
@@ -40,19 +41,21 @@ pub fn put_number(output: &mut [u8], at: usize, n: u64) -> usize
 }
 
 // Writes a level in decimal.
+// Stays: output and place are two parameters, as a caller would know nothing of bytes written through a field (tried: no proof).
 pub fn put_level(output: &mut [u8], at: usize, level: i16) -> usize
     requires { at + length (whole_digits level) ≤ length output.old }
     ensures { Put (whole_digits level) at output.old output.new result }
 {
-    let raised = segment::raise(level) as u64;
-    if raised < 32768 {
+    let size = u64::from(level.unsigned_abs());
+    if level < 0 {
         let sign = put_byte(output, at, b'-');
-        return put_number(output, sign, 32768 - raised);
+        return put_number(output, sign, size);
     }
-    put_number(output, at, raised - 32768)
+    put_number(output, at, size)
 }
 
 // Writes two numbers with a blank between them.
+// Stays: output and place are two parameters, as a caller would know nothing of bytes written through a field (tried: no proof).
 pub fn put_two(output: &mut [u8], at: usize, a: u64, b: u64) -> usize
     requires { at + length (two_text a b) ≤ length output.old }
     ensures { Put (two_text a b) at output.old output.new result }

@@ -1,29 +1,24 @@
--- `text::notes::is_note` skips the form that the line begins with: the line is a note if that ends where the line does.
-use mathlib.Core.Path.{sym, ◌∙◌}
-use native.Mathlib.Omega.{arith}
+-- `text::notes::is_note` looks at what a line begins with, and at whether its first bracket closes at its end.
+use Rattle.std.proofs.Common.{◌≡◌, ◌-◌, ◌∙◌, refl, sym, length, drop, take, take_all, length-drop, arith}
 use Rattle.text.specs.Notes.{is_note}
-use Rattle.text.proofs.Nests.{all_closed}
-use Rattle.text.proofs.Readings.{begins-long, note-off}
+use Rattle.text.proofs.Readings.{begins-long}
 use Rattle.text.proofs.notes.is_note.Goals as goal
 
-pub returns-then-not-begins_note : goal.returns-then-not-begins_note
-returns-then-not-begins_note c = note-off _ (sym c.begins_note.ensures ∙ c.if-not-begins_note.true)
+pub slice_bounds-closes_bracket-count : goal.slice_bounds-closes_bracket-count
+slice_bounds-closes_bracket-count c = begins-long c.args.line.now (sym c.begins_note.ensures ∙ c.if-begins_note.true)
 
-pub skip_form-requires : goal.skip_form-requires
-skip_form-requires c =
-    let start = c in
-    let begun = sym c.begins_note.ensures ∙ c.if-not-begins_note.false in
-    (omega arith, omega (arith, begins-long start.args.line.now begun))
+pub slice_bounds-closes_bracket-start : goal.slice_bounds-closes_bracket-start
+slice_bounds-closes_bracket-start c = begins-long c.args.line.now (sym c.begins_note.ensures ∙ c.if-begins_note.true)
 
-pub returns-in-At : goal.returns-in-At
+pub returns-then-begins_note : goal.returns-then-begins_note
 unfolding is_note
-returns-in-At c =
-    let line = c.args.line.now in
-    let begun = sym c.begins_note.ensures ∙ c.if-not-begins_note.false in
-    rw begun (sym (c.in-At.ensures.means ∙ all_closed line c.in-At.next c.in-At.ensures.past.1))
+returns-then-begins_note c =
+    let l = c.args.line.now in
+    let begun = sym c.begins_note.ensures ∙ c.if-begins_note.true in
+    let some = begins-long l begun in
+    let rest : take (length l - 1) (drop 1 l) ≡ drop 1 l = take_all _ _ (omega (arith, length-drop 1 l)) in
+    rw (begun, ← rest) c.closes_bracket.ensures
 
-pub returns-in-Off : goal.returns-in-Off
+pub returns-else-begins_note : goal.returns-else-begins_note
 unfolding is_note
-returns-in-Off c =
-    let begun = sym c.begins_note.ensures ∙ c.if-not-begins_note.false in
-    rw begun (sym c.in-Off.ensures.means)
+returns-else-begins_note c = rw (← c.begins_note.ensures, c.if-begins_note.false) refl
