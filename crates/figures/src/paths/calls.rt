@@ -112,13 +112,11 @@ pub fn print_selection(
         &mut numerators,
         &mut denominators,
     );
-    print!(
-        rt;
+    print!(rt;
         ": refusal {} index {} size {} loss {} weight {}",
         model.refusal, model.index, model.size, model.loss, model.weight,
     )?;
-    println!(
-        rt;
+    println!(rt;
         ", breakpoints: refusal {} count {} changed {} {}",
         listed.refusal,
         listed.count,
@@ -139,8 +137,7 @@ pub fn print_breakpoints(rt: &impl Print, lent: Columns<'_>, entries: usize) -> 
         &mut numerators,
         &mut denominators,
     );
-    println!(
-        rt;
+    println!(rt;
         ": refusal {} count {} and{} /{}",
         listed.refusal,
         listed.count,
