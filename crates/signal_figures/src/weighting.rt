@@ -36,6 +36,7 @@ const KINDS: [Option<Rise>; 5] = [
 ];
 
 // Weights, of which the first are lent.
+// Stays: a buffer with a number beside it, since there is no heap (project rule); `lent` gives the slice.
 #[derive(Clone, Copy)]
 pub struct Weights {
     values: [u64; 40],
