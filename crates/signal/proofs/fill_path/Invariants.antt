@@ -1,5 +1,4 @@
 -- `signal::fill_path` meets its contract. The loop's invariant: the buffers hold the path of sizes 1 to i.
-use Prim.Native.Nat.{◌-◌, ◌≤◌}
 use Rattle.path.specs.Model.{lists}
 use Rattle.path.specs.Inner.{Held}
 use Rattle.signal.specs.Signal.{path_by}
@@ -7,7 +6,4 @@ use Rattle.signal.specs.Inner.{losses_in}
 use Rattle.signal.proofs.fill_path.Given as goal
 
 abbrev pub invariant-loop-i : goal.invariant-loop-i
-invariant-loop-i l = (l.i ≤ l.count) × Held (path_by l.weights (losses_in l.losses) l.i) (lists l.initial.path_sizes l.initial.path_losses l.initial.path_weights) (lists l.path_sizes l.path_losses l.path_weights) l.entries l.i
-
-abbrev pub decreases-loop-i : goal.decreases-loop-i
-decreases-loop-i l = l.count - l.i
+invariant-loop-i l = Held (path_by l.weights (losses_in l.losses) l.i) (lists l.initial.path_sizes l.initial.path_losses l.initial.path_weights) (lists l.path_sizes l.path_losses l.path_weights) l.entries l.i

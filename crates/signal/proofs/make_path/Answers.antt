@@ -1,59 +1,53 @@
 -- `signal::make_path` meets its contract: the table, then the path of its losses.
-use mathlib.Core.Path.{sym, subst}
+use mathlib.Core.Path.{◌≡◌, sym, subst}
 use mathlib.Core.List.{List}
 use Prim.Native.Nat.{ℕ, ◌≤◌, ◌<◌, min}
 use native.Mathlib.Omega.{arith}
 use lib.IntN.{ℤ}
-use lib.ListN.{length, get_or}
-use Rattle.path.specs.Model.{lists}
+use lib.ListN.{length, get_or, take}
+use lib.Seq.{length-take-le}
+use Rattle.path.specs.Model.{Model, lists}
 use Rattle.path.specs.Refusal.{max_loss}
 use Rattle.path.proofs.Order.{places-fewer}
-use Rattle.weights.specs.Inner.{Weighable}
+use Rattle.weights.proofs.Steps.{weighs-fewer}
 use Rattle.least.specs.Inner.{Table}
 use Rattle.least.proofs.Counts.{count-bounds, count_most}
 use Rattle.signal.specs.SignalPath.{path_buffers}
-use Rattle.signal.proofs.Paths.{solved}
+use Rattle.signal.specs.Inner.{PathWritten}
+use Rattle.signal.proofs.Paths.{front-path, front-from, solved}
 use Rattle.std.proofs.Common.{rules}
 use Rattle.signal.proofs.make_path.Goals as goal
+use Rattle.signal.proofs.make_path.Goals.{After-fill_table-count}
 
 -- The table's first loss is in range.
 first-loss : {xs : List ℤ} {d k : ℕ} {losses scratch : List ℕ} → Table xs d k losses scratch → 0 < k → get_or losses 0 0 ≤ max_loss
 first-loss t h = omega (arith, t.losses_are 0 h, t.losses_low 0 h)
 
-pub fill_table-count-requires : goal.fill_table-count-requires
-fill_table-count-requires c =
-    let p = c.requires in
-    record {
-      one_sample = p.one_sample;
-      some = p.enough;
-      short = p.short;
-      one = p.one;
-      few = p.few;
-      len_losses = search rules;
-      len_scratch = p.scratch_fits;
-    }
+-- There are so many losses.
+listed : (c : After-fill_table-count) → c.fill_table-count.result ≤ length c.fill_table-count.new.losses
+listed c =
+    let s = c.args.signal in
+    omega (arith, count_most (length s.samples.now) s.min_segment_len s.max_segments c.fill_table-count.result c.fill_table-count.ensures.0, s.in_range.few, c.fill_table-count.auto.losses)
 
 pub write_path-requires : goal.write_path-requires
 write_path-requires c =
-    let places = c.smaller-places in
+    let places = c.places in
     let t = c.fill_table-count in
     let a = c.args in
-    let pre = c.requires in
-    let n = length a.samples.now in
-    let some = (count-bounds n a.min_segment_len a.max_segments t.result pre.one_sample pre.enough pre.one t.ensures.0).0 in
-    let most = count_most n a.min_segment_len a.max_segments t.result t.ensures.0 in
+    let s = a.signal in
+    let r = s.in_range in
+    let n = length s.samples.now in
+    let some = (count-bounds n s.min_segment_len s.max_segments t.result r.one_sample r.enough r.one t.ensures.0).0 in
+    let most = count_most n s.min_segment_len s.max_segments t.result t.ensures.0 in
     let buffers = lists a.path_sizes.now a.path_losses.now a.path_weights.now in
-    let fits = places-fewer buffers (min a.max_segments n) places.result pre.fits (omega (arith, most, places.ensures)) in
+    let fits = places-fewer buffers (min s.max_segments n) places.result c.requires.fits (omega (arith, most, places.ensures)) in
+    let l = listed (goal.at.write_path-requires c).After-fill_table-count in
     record {
-      losses_from = record {
-        few = omega (arith, most, pre.few);
-        listed = search rules;
-        fits = places-fewer buffers places.result t.result fits (omega (arith, most, places.ensures));
-        first_low = first-loss t.ensures.1 some;
-        weighable = subst (Weighable a.weights.now) (sym t.ensures.0) pre.weighable;
-      };
-      within = omega (arith, most, places.ensures);
-      few = omega (arith, most, places.ensures, pre.few);
+      losses_from = front-from s.weights.now t.new.losses t.result buffers l some (omega (arith, most, r.few))
+          (places-fewer buffers places.result t.result fits (omega (arith, most, places.ensures))) (first-loss t.ensures.1 some)
+          (weighs-fewer s.weights.now s.max_segments t.result r.weighable (omega (arith, most)));
+      within = omega (arith, most, places.ensures, length-take-le t.result t.new.losses l);
+      few = omega (arith, most, places.ensures, r.few);
       fits = fits;
     }
 
@@ -62,7 +56,10 @@ returns c =
     let t = c.fill_table-count in
     let p = c.write_path in
     let a = c.args in
-    let places = c.smaller-places in
+    let s = a.signal in
+    let places = c.places in
     let b = path_buffers (lists a.path_sizes.now a.path_losses.now a.path_weights.now) a.scratch.now in
-    solved a.samples.now a.max_segments a.min_segment_len a.weights.now t.result places.result t.ensures.0 places.ensures
-    t.new.losses b (lists _ _ _) t.new.scratch p.result t.ensures.1 (omega (arith, t.auto.scratch, c.requires.scratch_fits)) p.ensures
+    let l = listed (goal.at.returns c).After-fill_table-count in
+    solved s.samples.now s.max_segments s.min_segment_len s.weights.now t.result places.result t.ensures.0 places.ensures
+    t.new.losses b (lists _ _ _) t.new.scratch p.result t.ensures.1 (omega (arith, t.auto.scratch, c.requires.scratch_fits))
+    (subst (λ (path : List Model). PathWritten path places.result b.lists (lists p.new.path_sizes p.new.path_losses p.new.path_weights) p.result) (front-path s.weights.now t.new.losses t.result l) p.ensures)

@@ -2,34 +2,11 @@
 use mathlib.Core.Path.{ap, ◌∙◌}
 use Prim.Native.Nat.{ℕ, ◌-◌}
 use native.Mathlib.Omega.{arith}
-use lib.ListN.{replicate}
+use lib.ListN.{length, replicate}
 use borrow.Rule.Slice.PartMut.{put_mid, mid_len}
 use Rattle.path.specs.Model.{lists}
 use Rattle.signal.proofs.Paths.{written}
 use Rattle.signal.proofs.write_path.Goals as goal
-
-pub fill_path-entries-requires : goal.fill_path-entries-requires
-fill_path-entries-requires c =
-    let start = c in
-    start.requires.losses_from
-
-pub offset_bounds-path_sizes-entries : goal.offset_bounds-path_sizes-entries
-offset_bounds-path_sizes-entries c = omega (arith, c.fill_path-entries.ensures.most, c.requires.losses_from.few)
-
-pub slice_bounds-clear-count : goal.slice_bounds-clear-count
-slice_bounds-clear-count c = omega (arith, c.fill_path-entries.ensures.most, c.requires.within)
-
-pub offset_bounds-path_losses-entries : goal.offset_bounds-path_losses-entries
-offset_bounds-path_losses-entries c = omega (arith, c.fill_path-entries.ensures.most, c.requires.losses_from.few)
-
-pub slice_bounds-clear-count-2 : goal.slice_bounds-clear-count-2
-slice_bounds-clear-count-2 c = omega (arith, c.fill_path-entries.ensures.most, c.requires.within)
-
-pub offset_bounds-path_weights-entries : goal.offset_bounds-path_weights-entries
-offset_bounds-path_weights-entries c = omega (arith, c.fill_path-entries.ensures.most, c.requires.losses_from.few)
-
-pub slice_bounds-clear-count-3 : goal.slice_bounds-clear-count-3
-slice_bounds-clear-count-3 c = omega (arith, c.fill_path-entries.ensures.most, c.requires.within)
 
 pub returns : goal.returns
 returns c =
@@ -42,7 +19,7 @@ returns c =
     let s = f.new.path_sizes in
     let l = f.new.path_losses in
     let w = f.new.path_weights in
-    written _ a.count n t₀ (lists s l w) (lists _ _ _) k f.ensures pre.within pre.fits pre.few
-    (ap (put_mid k (n - k) s) (c.clear.ensures ∙ ap (λ (m : ℕ). replicate m 0) (mid_len k n s (omega (arith, pre.fits.in_sizes, f.ensures.sizes.long)))))
-    (ap (put_mid k (n - k) l) (c.clear-2.ensures ∙ ap (λ (m : ℕ). replicate m 0) (mid_len k n l (omega (arith, pre.fits.in_losses, f.ensures.losses.long)))))
-    (ap (put_mid k (n - k) w) (c.clear-3.ensures ∙ ap (λ (m : ℕ). replicate m 0) (mid_len k n w (omega (arith, pre.fits.in_weights, f.ensures.weights.long)))))
+    written _ (length a.losses.now) n t₀ (lists s l w) (lists _ _ _) k f.ensures pre.within pre.fits pre.few
+    (ap (put_mid k (n - k) s) (c.fill.ensures.after (λ y e. e) ∙ ap (λ (m : ℕ). replicate m 0) (mid_len k n s (omega (arith, pre.fits.in_sizes, f.ensures.sizes.long)))))
+    (ap (put_mid k (n - k) l) (c.fill-2.ensures.after (λ y e. e) ∙ ap (λ (m : ℕ). replicate m 0) (mid_len k n l (omega (arith, pre.fits.in_losses, f.ensures.losses.long)))))
+    (ap (put_mid k (n - k) w) (c.fill-3.ensures.after (λ y e. e) ∙ ap (λ (m : ℕ). replicate m 0) (mid_len k n w (omega (arith, pre.fits.in_weights, f.ensures.weights.long)))))

@@ -1,37 +1,10 @@
--- `weights::all_rising` meets its contract. The loop's invariant: the weights from place i - 1 on rise just where all do.
-use mathlib.Core.Path.{◌≡◌, refl, sym, ◌∙◌}
-use mathlib.Core.Bool.{◌&&◌}
-use mathlib.Core.List.{List}
-use Prim.Native.Nat.{ℕ, ◌+◌, ◌-◌, ◌≤◌}
-use native.Mathlib.Omega.{arith}
+-- `weights::all_rising` meets its contract: std's answer is the definition.
 use lib.Dec.{ltb}
-use lib.ListN.{length, get_or, drop}
-use borrow.Author.Tests.{lt-ltb, le-ltb}
-use Rattle.weights.specs.Weights.{rising}
-use Rattle.weights.proofs.Steps.{rise-turn, rise-end}
+use borrow.Author.Tests.{tests}
+use Rattle.std.proofs.Common.{rules}
+use Rattle.std.proofs.lemmas.List.Sorted.{answers_always}
+use Rattle.weights.proofs.Steps.{rising-is}
 use Rattle.weights.proofs.all_rising.Goals as goal
 
--- One turn, at place i.
-turn : (ws : List ℕ) (i : ℕ) → 1 ≤ i → i + 1 ≤ length ws → rising (drop (i - 1) ws) ≡ (ltb (get_or ws (i - 1) 0) (get_or ws i 0) && rising (drop i ws))
-turn ws i one h =
-    let e : i - 1 + 1 ≡ i = omega arith in
-    rw e at (rise-turn ws (i - 1) (omega arith))
-
-pub loop-i-init : goal.loop-i-init
-loop-i-init c = (omega arith, refl)
-
-pub returns-then-weights-i : goal.returns-then-weights-i
-returns-then-weights-i c =
-    let ws = c.args.weights.now in
-    let i = c.loop-i.i in
-    sym (sym c.loop-i.invariant.1 ∙ turn ws i c.loop-i.invariant.0 (omega arith) ∙ rw (le-ltb (get_or ws (i - 1) 0) (get_or ws i 0) c.if-weights-i.true))
-
-pub loop-i-preserved : goal.loop-i-preserved
-loop-i-preserved c =
-    let ws = c.args.weights.now in
-    let i = c.loop-i.i in
-    let e : i + 1 - 1 ≡ i = omega arith in
-    (omega arith, rw e (sym (turn ws i c.loop-i.invariant.0 (omega arith) ∙ rw (lt-ltb (get_or ws (i - 1) 0) (get_or ws i 0) c.if-weights-i.false)) ∙ c.loop-i.invariant.1))
-
 pub returns : goal.returns
-returns c = sym (sym c.loop-i.invariant.1 ∙ rise-end c.args.weights.now (c.loop-i.i - 1) (omega arith))
+returns c = rising-is c.args.weights.now c.is_sorted_by.result (c.is_sorted_by.ensures.cases ltb (answers_always _ _ _ (λ f a r g h. search (rules, tests))))
