@@ -20,9 +20,9 @@ returns-in_err-look_ahead c =
 pub returns-in-None : goal.returns-in-None
 returns-in-None c =
     let a = c.args in
-    taken a.weights.now a.limit a.rest.now c.in_ok-check_form.ensures ?
+    taken a.weights.now a.limit a.rest.now c.in_ok-check_form.ensures (rw c.in-None.is at c.in_ok-look_ahead.ensures)
 
 pub returns-in-Some : goal.returns-in-Some
 returns-in-Some c =
     let a = c.args in
-    taken-line a.weights.now a.limit a.rest.now c.in_ok-check_form.ensures _ _ ?
+    taken-line a.weights.now a.limit a.rest.now c.in_ok-check_form.ensures _ _ (rw c.in-Some.is at c.in_ok-look_ahead.ensures)
