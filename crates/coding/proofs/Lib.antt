@@ -3,7 +3,6 @@ pub mod Cutting
 pub mod Models
 pub mod Stores
 pub mod Calls
-pub mod Encoding
 pub mod Small
 pub mod Fitting
 pub mod Claims

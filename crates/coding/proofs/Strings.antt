@@ -13,7 +13,7 @@ use mir.Syntax.{w8}
 use mir.Val.{Fits}
 use Rattle.layout.specs.Items.{Bytes, items_to, items_of, bytes_of, signed_of, unsigned_of}
 use Rattle.layout.proofs.ItemLists.{Below, length-items, take-items, bytes-append, bytes_rest, bytes_back, items-low}
-use Rattle.layout.proofs.Signs.{unsigned_signed}
+use Rattle.layout.specs.Signs.{unsigned_signed}
 use Rattle.path.proofs.Cuts.{le-or-lt}
 
 -- What a lent slice is known to hold are bytes.

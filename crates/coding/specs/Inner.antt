@@ -1,9 +1,8 @@
 -- What the functions that read and write lists together ask for and leave. A reader of the calls need not believe anything that
 -- stands here.
-use Rattle.std.specs.Prelude.{◌≡◌, cond, List, ◌++◌, map, ℕ, ◌*◌, ◌/◌, ◌%◌, ◌≤◌, ◌<◌, min, eqb, ℤ, length, take, drop}
+use Rattle.std.specs.Prelude.{◌≡◌, cond, List, ◌++◌, map, ℕ, ◌*◌, ◌/◌, ◌%◌, ◌≤◌, ◌<◌, min, eqb, ℤ, length, drop}
 use Rattle.layout.specs.Items.{items_to, items_of, bytes_of, signed_of, unsigned_of}
 use Rattle.path.specs.Model.{Lists}
-use Rattle.path.specs.Buffer.{overwritten_to}
 
 -- What a string holds after a list of items of k bytes was encoded to it, by the refusal of the call.
 abbrev pub encoded_to : ℕ → ℕ → List ℕ → List ℕ → List ℕ
@@ -12,6 +11,14 @@ encoded_to refusal k bytes items = cond (eqb refusal 0) (bytes_of k items ++ dro
 -- The same of signed items.
 abbrev pub encoded_signed : ℕ → List ℕ → List ℤ → List ℕ
 encoded_signed refusal bytes items = cond (eqb refusal 0) (bytes_of 2 (map unsigned_of items) ++ drop (2 * length items) bytes) bytes
+
+-- What a string holds after a list of items of k bytes was written to its front.
+abbrev pub written_to : ℕ → List ℕ → List ℕ → List ℕ
+written_to k bytes items = bytes_of k items ++ drop (k * length items) bytes
+
+-- The same of signed items.
+abbrev pub written_signed : List ℕ → List ℤ → List ℕ
+written_signed bytes items = bytes_of 2 (map unsigned_of items) ++ drop (2 * length items) bytes
 
 -- Two strings have a and b items, of j and of k bytes.
 pub record Holds (j k a b : ℕ) (x y : List ℕ) : Type 0 where
@@ -42,6 +49,11 @@ pub record ModelsEncoded (refusal : ℕ) (sizes losses weights s l w sizes' loss
   pub losses_are : losses' ≡ encoded_to refusal 8 losses l
   pub weights_are : weights' ≡ encoded_to refusal 2 weights w
 
+pub record ModelsWritten (sizes losses weights s l w sizes' losses' weights' : List ℕ) : Type 0 where
+  pub sizes_are : sizes' ≡ written_to 2 sizes s
+  pub losses_are : losses' ≡ written_to 8 losses l
+  pub weights_are : weights' ≡ written_to 2 weights w
+
 -- The starts and levels that were read.
 pub record SegmentsRead (starts levels s : List ℕ) (l : List ℤ) (a b : ℕ) : Type 0 where
   pub starts_are : s ≡ items_to 2 starts a
@@ -52,13 +64,12 @@ pub record SegmentsEncoded (refusal : ℕ) (starts levels s : List ℕ) (l : Lis
   pub starts_are : starts' ≡ encoded_to refusal 2 starts s
   pub levels_are : levels' ≡ encoded_signed refusal levels l
 
+pub record SegmentsWritten (starts levels s : List ℕ) (l : List ℤ) (starts' levels' : List ℕ) : Type 0 where
+  pub starts_are : starts' ≡ written_to 2 starts s
+  pub levels_are : levels' ≡ written_signed levels l
+
 -- A string of whole items of k bytes has an item at place `kept`, and n items or more.
 pub record Storable (k : ℕ) (bytes : List ℕ) (kept n : ℕ) : Type 0 where
   pub whole : length bytes % k ≡ 0
   pub inside : kept < length (items_of k bytes)
   pub room : n ≤ length (items_of k bytes)
-
--- The string b, which was b₀, has zeros from one place to another in whatever items it spelt.
-pub record ClearedTo (k : ℕ) (b₀ b : List ℕ) (from i : ℕ) : Type 0 where
-  pub long : length b ≡ length b₀
-  pub is : (xs : List ℕ) → b₀ ≡ bytes_of k xs → from ≤ length xs → i ≤ length xs → b ≡ bytes_of k (overwritten_to (take from xs) i xs)

@@ -1,49 +1,117 @@
 // Byte strings as what a call on numbers is lent: the lists that it works on are read from them, and written back where it was
-// accepted.
+// accepted. Models may also be looked at where they lie in their strings.
 
 #![tactic(auto)]
 
 ghost use Rattle.std.specs.Prelude.{◌≡◌, ◌*◌, ◌≤◌, ◌∷◌, [], ◌++◌, length, take};
 ghost use Rattle.layout.specs.Items.{items_of, bytes_of};
+ghost use Rattle.path.specs.Model.{lists};
 ghost use Rattle.path.specs.Buffer.{overwritten_to};
-ghost use Rattle.coding.specs.Inner.{Storable, ClearedTo, encoded_to, encoded_signed, Holds, HoldsModels, ModelsRead, ModelsEncoded, SegmentsRead, SegmentsEncoded};
+ghost use Rattle.coding.specs.Models.{models_coding};
+ghost use Rattle.coding.specs.Inner.{Storable, Holds, HoldsModels, ModelsRead, ModelsWritten, ModelsEncoded, SegmentsRead, SegmentsWritten, SegmentsEncoded};
 
-use layout::{put, read_i16s, read_items, read_u16s, write_i16s, write_items, write_u16s};
+use layout::{Item, item_at, read_items, write_items};
+use path::storage::{Columns, Models};
 
-// Writes a list of items of `width` bytes to the front of a byte string, unless the call was refused.
-pub fn encode_items(refusal: u64, bytes: &mut [u8], width: usize, items: &[u64])
-    requires { width * length items.now ≤ length bytes.old }
-    ensures { bytes.new ≡ encoded_to refusal width bytes.old items.now }
-{
-    if refusal != 0 {
-        return;
-    }
-    write_items(bytes, width, items);
+// Models or a path in three byte strings: sizes and weights in two bytes each, losses in eight.
+#[derive(Clone, Copy)]
+pub struct ByteColumns<'a> {
+    pub sizes: &'a [u8],
+    pub losses: &'a [u8],
+    pub weights: &'a [u8],
 }
 
-// Writes a list of items of two bytes to the front of a byte string, unless the call was refused.
-pub fn encode_u16s(refusal: u64, bytes: &mut [u8], items: &[u16])
-    requires { 2 * length items.now ≤ length bytes.old }
-    ensures { bytes.new ≡ encoded_to refusal 2 bytes.old items.now }
-{
-    if refusal != 0 {
-        return;
+impl<'a> Models for ByteColumns<'a> {
+    ghost held = { λ c. models_coding.numbers (lists c.sizes.now c.losses.now c.weights.now) };
+
+    fn has_room(&self, n: usize) -> bool {
+        n <= self.sizes.len() / 2 && n <= self.losses.len() / 8 && n <= self.weights.len() / 2
     }
-    write_u16s(bytes, items);
+
+    fn size_at(&self, i: usize) -> u64 {
+        item_at::<2, u64>(self.sizes, i)
+    }
+
+    fn loss_at(&self, i: usize) -> u64 {
+        item_at::<8, u64>(self.losses, i)
+    }
+
+    fn weight_at(&self, i: usize) -> u64 {
+        item_at::<2, u64>(self.weights, i)
+    }
 }
 
-// Writes a list of signed items of two bytes to the front of a byte string, unless the call was refused.
-pub fn encode_i16s(refusal: u64, bytes: &mut [u8], items: &[i16])
-    requires { 2 * length items.now ≤ length bytes.old }
-    ensures { bytes.new ≡ encoded_signed refusal bytes.old items.now }
-{
-    if refusal != 0 {
-        return;
+impl<'a> ByteColumns<'a> {
+    // Reads as many sizes, losses and weights as the three lists have places.
+    pub fn read(&self, size_items: &mut [u64], loss_items: &mut [u64], weight_items: &mut [u64])
+        requires { HoldsModels
+            (length size_items.old) (length loss_items.old) (length weight_items.old)
+            self.now.sizes.now self.now.losses.now self.now.weights.now }
+        ensures { ModelsRead self.now.sizes.now self.now.losses.now self.now.weights.now
+            size_items.new loss_items.new weight_items.new
+            (length size_items.old) (length loss_items.old) (length weight_items.old) }
+    {
+        read_items::<2, u64>(self.sizes, size_items);
+        read_items::<8, u64>(self.losses, loss_items);
+        read_items::<2, u64>(self.weights, weight_items);
     }
-    write_i16s(bytes, items);
 }
 
-// Reads as many sizes, losses and weights as the three lists have places.
+// Writes sizes, losses and weights to the front of three byte strings, whose rest stays.
+pub fn write_models(sizes: &mut [u8], losses: &mut [u8], weights: &mut [u8], models: &Columns<'_>)
+    requires { HoldsModels
+        (length models.now.sizes.now) (length models.now.losses.now) (length models.now.weights.now)
+        sizes.old losses.old weights.old }
+    ensures { ModelsWritten sizes.old losses.old weights.old
+        models.now.sizes.now models.now.losses.now models.now.weights.now
+        sizes.new losses.new weights.new }
+{
+    write_items::<2, u64>(sizes, models.sizes);
+    write_items::<8, u64>(losses, models.losses);
+    write_items::<2, u64>(weights, models.weights);
+}
+
+// Reads as many starts and levels as the two lists have places.
+pub fn read_segments(starts: &[u8], levels: &[u8], start_items: &mut [u16], level_items: &mut [i16])
+    requires { Holds 2 2 (length start_items.old) (length level_items.old) starts.now levels.now }
+    ensures { SegmentsRead starts.now levels.now
+        start_items.new level_items.new
+        (length start_items.old) (length level_items.old) }
+{
+    read_items::<2, u16>(starts, start_items);
+    read_items::<2, i16>(levels, level_items);
+}
+
+// Writes starts and levels to the front of two byte strings, whose rest stays.
+pub fn write_segments(
+    starts: &mut [u8],
+    levels: &mut [u8],
+    start_items: &[u16],
+    level_items: &[i16],
+)
+    requires { Holds 2 2 (length start_items.now) (length level_items.now) starts.old levels.old }
+    ensures { SegmentsWritten starts.old levels.old
+        start_items.now level_items.now
+        starts.new levels.new }
+{
+    write_items::<2, u16>(starts, start_items);
+    write_items::<2, i16>(levels, level_items);
+}
+
+// Puts a value after the first items, which stay, and zeros after it as far as item n.
+pub fn store_item<const W: usize, T: Item<W>>(bytes: &mut [u8], kept: usize, n: usize, value: T)
+    requires { Storable W bytes.old kept n }
+    ensures { bytes.new ≡ bytes_of W (overwritten_to
+        (take kept (items_of W bytes.old) ++ (T.spelt value ∷ []))
+        n
+        (items_of W bytes.old)) }
+{
+    value.put(bytes, W * kept);
+    let after = W * (kept + 1);
+    bytes[after..after.max(W * n)].fill(0);
+}
+
+// The forms before these, until byte_streams calls them.
 pub fn read_models(
     sizes: &[u8],
     losses: &[u8],
@@ -59,12 +127,14 @@ pub fn read_models(
         size_items.new loss_items.new weight_items.new
         (length size_items.old) (length loss_items.old) (length weight_items.old) }
 {
-    read_items(sizes, 2, size_items);
-    read_items(losses, 8, loss_items);
-    read_items(weights, 2, weight_items);
+    ByteColumns {
+        sizes,
+        losses,
+        weights,
+    }
+    .read(size_items, loss_items, weight_items);
 }
 
-// Writes sizes, losses and weights to the front of three byte strings, unless the call was refused.
 pub fn encode_models(
     refusal: u64,
     sizes: &mut [u8],
@@ -81,23 +151,17 @@ pub fn encode_models(
         size_items.now loss_items.now weight_items.now
         sizes.new losses.new weights.new }
 {
-    encode_items(refusal, sizes, 2, size_items);
-    encode_items(refusal, losses, 8, loss_items);
-    encode_items(refusal, weights, 2, weight_items);
+    if refusal != 0 {
+        return;
+    }
+    let models = Columns {
+        sizes: size_items,
+        losses: loss_items,
+        weights: weight_items,
+    };
+    write_models(sizes, losses, weights, &models);
 }
 
-// Reads as many starts and levels as the two lists have places.
-pub fn read_segments(starts: &[u8], levels: &[u8], start_items: &mut [u16], level_items: &mut [i16])
-    requires { Holds 2 2 (length start_items.old) (length level_items.old) starts.now levels.now }
-    ensures { SegmentsRead starts.now levels.now
-        start_items.new level_items.new
-        (length start_items.old) (length level_items.old) }
-{
-    read_u16s(starts, start_items);
-    read_i16s(levels, level_items);
-}
-
-// Writes starts and levels to the front of two byte strings, unless the call was refused.
 pub fn encode_segments(
     refusal: u64,
     starts: &mut [u8],
@@ -110,32 +174,8 @@ pub fn encode_segments(
         start_items.now level_items.now
         starts.new levels.new }
 {
-    encode_u16s(refusal, starts, start_items);
-    encode_i16s(refusal, levels, level_items);
-}
-
-// Writes zeros as items of `width` bytes, from one place as far as another.
-fn clear_items(bytes: &mut [u8], width: usize, from: usize, n: usize)
-    requires { (width * from ≤ length bytes.old) × (width * n ≤ length bytes.old) }
-    ensures { ClearedTo width bytes.old bytes.new from n }
-{
-    let mut i = from;
-    let mut at = width * from;
-    while i < n {
-        put(bytes, at, width, 0);
-        at += width;
-        i += 1;
+    if refusal != 0 {
+        return;
     }
-}
-
-// Puts a value after the first items of `width` bytes, which stay, and zeros after it as far as item n.
-pub fn store_item(bytes: &mut [u8], width: usize, kept: usize, n: usize, value: u64)
-    requires { Storable width bytes.old kept n }
-    ensures { bytes.new ≡ bytes_of width (overwritten_to
-        (take kept (items_of width bytes.old) ++ (value ∷ []))
-        n
-        (items_of width bytes.old)) }
-{
-    put(bytes, width * kept, width, value);
-    clear_items(bytes, width, kept + 1, n);
+    write_segments(starts, levels, start_items, level_items);
 }

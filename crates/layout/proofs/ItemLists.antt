@@ -3,14 +3,15 @@
 use mathlib.Core.Path.{◌≡◌, refl, ap, sym, ◌∙◌}
 use mathlib.Core.List.{List, [], ◌∷◌, ◌++◌, append_assoc, append-nil, map}
 use Prim.Native.Nat.{ℕ, zero, suc, ◌+◌, ◌*◌, ◌-◌, ◌/◌, ◌%◌, ◌^◌, ◌≤◌, ◌<◌}
-use native.Mathlib.Nat.{pow-suc, mul-suc, add-suc, add-zero, mul-zero, mul-le-mul_left}
+use native.Mathlib.Nat.{pow-suc, mul-suc, add-suc, add-zero, mul-zero, mul-le-mul_left, mul-div-le}
 use native.Mathlib.Omega.{arith}
-use lib.ListN.{length, get_or, set, take, drop, length-set, length-append, length-drop, take-append-drop, drop_of_length-le, length-map, get_or-map}
-use lib.Seq.{drop-cons, take-suc, take_at, drop_at, drop-drop, take-add, take-append-le, take-suc-set, drop-set-lt, take_all, append_snoc, get_or_at, get_or-take, get_or-set_same, take-set-le, take-length, get_or-append-add, length-take-le, drop-append-add, set_at, ext_get_or}
+use lib.ListN.{length, get_or, set, take, drop, length-set, length-append, length-drop, take-append-drop}
+use lib.Seq.{drop-cons, take-suc, take_at, drop_at, drop-drop, take-add, take-append-le, take-suc-set, drop-set-lt, take_all, append_snoc, get_or_at, get_or-take, get_or-set_same, take-set-le, get_or-append-add, length-take-le, drop-append-add, ext_get_or}
+use borrow.Rule.Slice.PartMut.{put_mid}
 use Rattle.layout.specs.Item.{item, set_item}
-use Rattle.layout.specs.Items.{Bytes, items_to, item_bytes, bytes_of, signed_of, unsigned_of}
-use lib.IntN.{ℤ, pos}
-use Rattle.layout.proofs.Laws.{item-low, length-set_item}
+use Rattle.layout.specs.Items.{Bytes, items_to, items_of, item_bytes, bytes_of}
+use Rattle.layout.proofs.Laws.{item-low}
+use Rattle.std.proofs.lemmas.List.{map-append}
 
 -- The first n items are n items.
 pub length-items : (k : ℕ) (bytes : List ℕ) (n : ℕ) → length (items_to k bytes n) ≡ n
@@ -54,6 +55,12 @@ put-spells (suc k) bytes at v h =
     ∙ rw (take-suc-set bytes at (v % 256) (omega arith), drop-set-lt (suc at + k) bytes at (v % 256) (omega arith), e)
     (append_snoc (take at bytes) (v % 256) (item_bytes k (v / 256) ++ drop (at + suc k) bytes))
 
+-- So are these bytes written over a part of the string.
+pub put-part : (k : ℕ) (bytes : List ℕ) (at n v : ℕ) (part : List ℕ) → n ≡ k → at + k ≤ length bytes → part ≡ item_bytes k v
+    → put_mid at n bytes part ≡ set_item k bytes at v
+put-part k bytes at n v part e h p =
+    (λ i. take at bytes ++ (p i ++ (ap (λ (m : ℕ). drop m (drop at bytes)) e ∙ drop-drop k at bytes) i)) ∙ sym (put-spells k bytes at v h)
+
 -- The bytes of two lists of items.
 pub bytes-append : (k : ℕ) (xs ys : List ℕ) → bytes_of k (xs ++ ys) ≡ bytes_of k xs ++ bytes_of k ys
 unfolding bytes_of
@@ -94,10 +101,6 @@ bytes-items k bytes (suc n) b h =
 abbrev pub written : ℕ → List ℕ → ℕ → List ℕ → List ℕ
 written k items i bytes = bytes_of k (take i items) ++ drop (k * i) bytes
 
--- The first i items read to the front of a list.
-abbrev read_to : ℕ → List ℕ → ℕ → List ℕ → List ℕ
-read_to k bytes i items = items_to k bytes i ++ drop i items
-
 module _ (k : ℕ) (items bytes : List ℕ) where
   length_front : (i : ℕ) → i ≤ length items → length (bytes_of k (take i items)) ≡ k * i
   length_front i h = length-bytes k (take i items) ∙ ap (λ (n : ℕ). k * n) (length-take-le i items h)
@@ -118,14 +121,6 @@ module _ (k : ℕ) (items bytes : List ℕ) where
       ap (bytes_of k) (take-suc items i 0 h) ∙ bytes-append k (take i items) (get_or items i 0 ∷ []) ∙ ap (λ (r : List ℕ). p ++ r) (bytes_one k (get_or items i 0)) in
       put-spells k (p ++ drop (k * i) bytes) (k * i) (get_or items i 0) (omega (arith, length-written i (omega arith) (omega arith)))
       ∙ rw (take_at p (drop (k * i) bytes) (k * i) l, d, t, m) (sym (append_assoc p (item_bytes k (get_or items i 0)) (drop (k * i + k) bytes)))
-
-  -- One item more is read.
-  read_more : (i : ℕ) → i < length items → set (read_to k bytes i items) i (item k bytes (k * i)) ≡ read_to k bytes (suc i) items
-  unfolding items_to
-  read_more i h =
-      rw (drop-cons items i 0 h)
-      (set_at (items_to k bytes i) (get_or items i 0) (drop (suc i) items) (item k bytes (k * i)) i (length-items k bytes i)
-      ∙ sym (append_snoc (items_to k bytes i) (item k bytes (k * i)) (drop (suc i) items)))
 
 -- The bytes of the items from the c-th on are the bytes from the (k c)-th on.
 pub bytes_rest : (k : ℕ) (bytes : List ℕ) (n c : ℕ) → Bytes bytes → length bytes ≡ k * n → c ≤ n → bytes_of k (drop c (items_to k bytes n)) ≡ drop (k * c) bytes
@@ -186,15 +181,15 @@ pub items-low : (k : ℕ) (bytes : List ℕ) (n : ℕ) → Bytes bytes → Below
 items-low k bytes n b i h =
     let l : i < n = omega (arith, length-items k bytes n) in rw (get_or-items k bytes n i l) (item-low k bytes (k * i) b)
 
--- What a loop has read after i items, at the place `at`.
-pub record ReadTo (k : ℕ) (bytes items₀ items : List ℕ) (i at : ℕ) : Type 0 where
-  pub within : i ≤ length items₀
-  pub long : length items ≡ length items₀
-  pub place : at ≡ k * i
-  pub is : items ≡ read_to k bytes i items₀
+-- The bytes of the first i items.
+pub front-bytes : (k : ℕ) (xs : List ℕ) (i : ℕ) → i ≤ length xs → take (k * i) (bytes_of k xs) ≡ bytes_of k (take i xs)
+front-bytes k xs i h =
+    ap (λ (ys : List ℕ). take (k * i) (bytes_of k ys)) (sym (take-append-drop i xs))
+    ∙ ap (take (k * i)) (bytes-append k (take i xs) (drop i xs))
+    ∙ take_at (bytes_of k (take i xs)) (bytes_of k (drop i xs)) (k * i) (length-bytes k (take i xs) ∙ ap (λ (n : ℕ). k * n) (length-take-le i xs h))
 
 -- The bytes of the items from the i-th on.
-rest-bytes : (k : ℕ) (xs : List ℕ) (i : ℕ) → i ≤ length xs → drop (k * i) (bytes_of k xs) ≡ bytes_of k (drop i xs)
+pub rest-bytes : (k : ℕ) (xs : List ℕ) (i : ℕ) → i ≤ length xs → drop (k * i) (bytes_of k xs) ≡ bytes_of k (drop i xs)
 rest-bytes k xs i h =
     ap (λ (ys : List ℕ). drop (k * i) (bytes_of k ys)) (sym (take-append-drop i xs))
     ∙ ap (drop (k * i)) (bytes-append k (take i xs) (drop i xs))
@@ -218,94 +213,41 @@ set-item k xs i v h =
     ∙ write-more k ys b i (omega arith) (omega (arith, whole, mul-le-mul_left {m = suc i} {n = length xs} k h))
     ∙ end
 
--- What a loop has written after i items, at the place `at`.
-pub record WrittenTo (k : ℕ) (items bytes₀ bytes : List ℕ) (i at : ℕ) : Type 0 where
-  pub within : i ≤ length items
-  pub long : length bytes ≡ length bytes₀
-  pub place : at ≡ k * i
-  pub is : bytes ≡ written k items i bytes₀
-
 -- One item more lies within the string.
 pub one_more : (k i n m : ℕ) → i < n → k * n ≤ m → k * i + k ≤ m
 one_more k i n m h f = omega (arith, mul-suc k i, mul-le-mul_left {m = suc i} {n = n} k h)
 
-module _ (k : ℕ) (bytes items₀ : List ℕ) where
-  pub read-start : ReadTo k bytes items₀ items₀ 0 0
-  unfolding items_to
-  read-start = record { within = omega arith; long = refl; place = sym (mul-zero k); is = refl }
+-- An item at a place lies within the string.
+pub item_inside : (k : ℕ) (bytes : List ℕ) (i : ℕ) → i < length (items_of k bytes) → k * i + k ≤ length bytes
+item_inside k bytes i h =
+    one_more k i (length bytes / k) (length bytes) (omega (arith, h, length-items k bytes (length bytes / k))) (mul-div-le (length bytes) k)
 
-  module _ (items : List ℕ) (i at : ℕ) (r : ReadTo k bytes items₀ items i at) where
-    pub read_step : i < length items₀ → (v : ℕ) → v ≡ item k bytes at → ReadTo k bytes items₀ (set items i v) (suc i) (at + k)
-    read_step h v e =
-        record {
-          within = h;
-          long = length-set items i v ∙ r.long;
-          place = omega (arith, r.place, mul-suc k i);
-          is = ap (λ (x : ℕ). set items i x) (e ∙ ap (item k bytes) r.place) ∙ ap (λ (x : List ℕ). set x i (item k bytes (k * i))) r.is ∙ read_more k items₀ bytes i h;
-        }
+-- One item more is read, each as what f says it stands for.
+pub read-more : {A : Type 0} (f : ℕ → A) (k : ℕ) (bytes : List ℕ) (items : List A) (i : ℕ) (x : A) → i < length items
+    → x ≡ f (item k bytes (k * i)) → take i items ≡ map f (items_to k bytes i) → take (suc i) (set items i x) ≡ map f (items_to k bytes (suc i))
+unfolding items_to
+read-more f k bytes items i x h e r =
+    take-suc-set items i x h ∙ (λ j. r j ++ (e j ∷ [])) ∙ sym (map-append f (items_to k bytes i) (item k bytes (k * i) ∷ []))
 
-    pub read-end : length items₀ ≤ i → items ≡ items_to k bytes (length items₀)
-    read-end h =
-        let e : i ≡ length items₀ = omega (arith, r.within) in
-        r.is ∙ rw (drop_of_length-le items₀ {i = i} h) (append-nil (items_to k bytes i) ∙ ap (items_to k bytes) e)
+-- All are read.
+pub read-all : {A : Type 0} (f : ℕ → A) (k : ℕ) (bytes : List ℕ) (items : List A) (i n : ℕ) → i ≡ n → length items ≡ n
+    → take i items ≡ map f (items_to k bytes i) → items ≡ map f (items_to k bytes n)
+read-all f k bytes items i n e l r =
+    sym (take_all n items (omega arith)) ∙ ap (λ (m : ℕ). take m items) (sym e) ∙ r ∙ ap (λ (m : ℕ). map f (items_to k bytes m)) e
 
-module _ (k : ℕ) (items bytes₀ : List ℕ) (f : k * length items ≤ length bytes₀) where
-  pub write-start : WrittenTo k items bytes₀ bytes₀ 0 0
-  unfolding bytes_of
-  write-start = record { within = omega arith; long = refl; place = sym (mul-zero k); is = rw mul-zero }
+-- Nothing is written.
+pub write-none : (k : ℕ) (items bytes : List ℕ) → bytes ≡ written k items 0 bytes
+unfolding bytes_of
+write-none k items bytes = rw mul-zero
 
-  module _ (bytes : List ℕ) (i at : ℕ) (r : WrittenTo k items bytes₀ bytes i at) where
-    pub write_step : i < length items → WrittenTo k items bytes₀ (set_item k bytes at (get_or items i 0)) (suc i) (at + k)
-    write_step h =
-        record {
-          within = h;
-          long = length-set_item k bytes at (get_or items i 0) ∙ r.long;
-          place = omega (arith, r.place, mul-suc k i);
-          is = ap (λ (x : ℕ). set_item k bytes x (get_or items i 0)) r.place ∙ ap (λ (x : List ℕ). set_item k x (k * i) (get_or items i 0)) r.is ∙ write-more k items bytes₀ i h (omega (arith, mul-le-mul_left {m = suc i} {n = length items} k h));
-        }
+-- One item more is written, which v spells.
+pub write-on : (k : ℕ) (items bytes₀ bytes after : List ℕ) (i v : ℕ) → bytes ≡ written k items i bytes₀ → after ≡ set_item k bytes (k * i) v
+    → v ≡ get_or items i 0 → i < length items → k * length items ≤ length bytes₀ → after ≡ written k items (suc i) bytes₀
+write-on k items bytes₀ bytes after i v r e f h l =
+    e ∙ (λ j. set_item k (r j) (k * i) (f j)) ∙ write-more k items bytes₀ i h (omega (arith, mul-suc k i, one_more k i (length items) (length bytes₀) h l))
 
-    pub write-end : length items ≤ i → bytes ≡ bytes_of k items ++ drop (k * length items) bytes₀
-    write-end h =
-        let e : i ≡ length items = omega (arith, r.within) in
-        r.is ∙ rw (e, take-length items)
-
--- Signed items read to the front of a list.
-pub record SignedTo (bytes : List ℕ) (items₀ items : List ℤ) (i : ℕ) : Type 0 where
-  pub within : i ≤ length items₀
-  pub long : length items ≡ length items₀
-  pub is : items ≡ map signed_of (items_to 2 bytes i) ++ drop i items₀
-
-map_snoc : (f : ℕ → ℤ) (xs : List ℕ) (x : ℕ) → map f (xs ++ (x ∷ [])) ≡ map f xs ++ (f x ∷ [])
-map_snoc f [] x = refl
-map_snoc f (y ∷ xs) x = ap (λ (r : List ℤ). f y ∷ r) (map_snoc f xs x)
-
-module _ (bytes : List ℕ) (items₀ : List ℤ) where
-  pub signed-start : SignedTo bytes items₀ items₀ 0
-  unfolding items_to
-  signed-start = record { within = omega arith; long = refl; is = refl }
-
-  module _ (items : List ℤ) (i : ℕ) (r : SignedTo bytes items₀ items i) where
-    length-signed : length (map signed_of (items_to 2 bytes i)) ≡ i
-    length-signed = length-map (items_to 2 bytes i) signed_of ∙ length-items 2 bytes i
-
-    pub signed-step : i < length items₀ → (v : ℤ) → v ≡ signed_of (item 2 bytes (2 * i)) → SignedTo bytes items₀ (set items i v) (suc i)
-    unfolding items_to
-    signed-step h v e =
-        let m = map signed_of (items_to 2 bytes i) in
-        record {
-          within = h;
-          long = length-set items i v ∙ r.long;
-          is = ap (λ (x : List ℤ). set x i v) (r.is ∙ ap (λ (x : List ℤ). m ++ x) (drop-cons items₀ i (pos 0) h))
-              ∙ set_at m (get_or items₀ i (pos 0)) (drop (suc i) items₀) v i length-signed ∙ sym (append_snoc m v (drop (suc i) items₀))
-              ∙ ap (λ (x : List ℤ). x ++ drop (suc i) items₀) (ap (λ (z : ℤ). m ++ (z ∷ [])) e ∙ sym (map_snoc signed_of (items_to 2 bytes i) (item 2 bytes (2 * i))));
-        }
-
-    pub signed-end : length items₀ ≤ i → items ≡ map signed_of (items_to 2 bytes (length items₀))
-    signed-end h =
-        let e : i ≡ length items₀ = omega (arith, r.within) in
-        r.is ∙ rw (drop_of_length-le items₀ {i = i} h) (append-nil (map signed_of (items_to 2 bytes i)) ∙ ap (λ (n : ℕ). map signed_of (items_to 2 bytes n)) e)
-
--- The bits of the i-th of signed items.
-pub unsigned-at : (items : List ℤ) (i : ℕ) → get_or (map unsigned_of items) i 0 ≡ unsigned_of (get_or items i (pos 0))
-unfolding unsigned_of
-unsigned-at items i = get_or-map unsigned_of items i (pos 0)
+-- All are written.
+pub write-all : (k : ℕ) (items bytes₀ bytes : List ℕ) (i n : ℕ) → bytes ≡ written k items i bytes₀ → i ≡ n → length items ≡ n
+    → bytes ≡ bytes_of k items ++ drop (k * n) bytes₀
+write-all k items bytes₀ bytes i n r e l =
+    r ∙ ap (λ (m : ℕ). written k items m bytes₀) e ∙ ap (λ (xs : List ℕ). bytes_of k xs ++ drop (k * n) bytes₀) (take_all n items (omega arith))

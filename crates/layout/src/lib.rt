@@ -2,54 +2,156 @@
 // written from one. The table of starts in the scratch and the lists of the calls in C are made of such items.
 #![tactic(auto)]
 
-ghost use Rattle.std.specs.Prelude.{◌≡◌, map, ◌++◌, ◌+◌, ◌*◌, ◌≤◌, ◌<◌, length, get_or, drop};
+ghost use Rattle.std.specs.Prelude.{◌≡◌, map, ◌++◌, ◌+◌, ◌*◌, ◌^◌, ◌≤◌, ◌<◌, ℕ, length, get_or, drop, refl};
 ghost use Rattle.layout.specs.Item.{item, set_item};
 ghost use Rattle.layout.specs.Items.{items_to, items_of, bytes_of, signed_of, unsigned_of};
+ghost use Rattle.layout.specs.Signs.{unsigned_signed};
 
-// The two-byte item that starts at the byte `at`.
+// A number that stands in byte strings as an item of W bytes, low byte first.
+pub trait Item<const W: usize>: Copy {
+    // The number without a sign that the item's bytes spell.
+    ghost spelt: { Self → ℕ };
+    // The number that an item stands for.
+    ghost stands_for: { ℕ → Self };
+
+    // The item that starts at the byte `at`.
+    fn get(bytes: &[u8], at: usize) -> Self
+        requires { at + W ≤ length bytes.now }
+        ensures { result ≡ stands_for (item W bytes.now at) };
+
+    // Puts the number as the item that starts at the byte `at`.
+    fn put(self, bytes: &mut [u8], at: usize)
+        requires { at + W ≤ length bytes.old }
+        ensures { bytes.new ≡ set_item W bytes.old at (spelt self) };
+
+    // The number that an item stands for spells that item.
+    ghost back: { (v : ℕ) → v < 256 ^ W → spelt (stands_for v) ≡ v };
+}
+
+impl Item<2> for u16 {
+    ghost spelt = { λ x. x };
+
+    ghost stands_for = { λ v. v };
+
+    fn get(bytes: &[u8], at: usize) -> u16 {
+        u16::from_le_bytes([bytes[at], bytes[at + 1]])
+    }
+
+    fn put(self, bytes: &mut [u8], at: usize) {
+        bytes[at..at + 2].copy_from_slice(&self.to_le_bytes());
+    }
+
+    ghost back = { λ v h. refl };
+}
+
+impl Item<8> for u64 {
+    ghost spelt = { λ x. x };
+
+    ghost stands_for = { λ v. v };
+
+    fn get(bytes: &[u8], at: usize) -> u64 {
+        u64::from_le_bytes([
+            bytes[at],
+            bytes[at + 1],
+            bytes[at + 2],
+            bytes[at + 3],
+            bytes[at + 4],
+            bytes[at + 5],
+            bytes[at + 6],
+            bytes[at + 7],
+        ])
+    }
+
+    fn put(self, bytes: &mut [u8], at: usize) {
+        bytes[at..at + 8].copy_from_slice(&self.to_le_bytes());
+    }
+
+    ghost back = { λ v h. refl };
+}
+
+impl Item<2> for u64 {
+    ghost spelt = { λ x. x };
+
+    ghost stands_for = { λ v. v };
+
+    fn get(bytes: &[u8], at: usize) -> u64 {
+        u64::from(u16::get(bytes, at))
+    }
+
+    fn put(self, bytes: &mut [u8], at: usize) {
+        let low = (self % 65536) as u16;
+        low.put(bytes, at);
+    }
+
+    ghost back = { λ v h. refl };
+}
+
+impl Item<2> for i16 {
+    ghost spelt = { unsigned_of };
+
+    ghost stands_for = { signed_of };
+
+    fn get(bytes: &[u8], at: usize) -> i16 {
+        u16::get(bytes, at).cast_signed()
+    }
+
+    fn put(self, bytes: &mut [u8], at: usize) {
+        self.cast_unsigned().put(bytes, at);
+    }
+
+    ghost back = { unsigned_signed };
+}
+
+// The item at place i.
+pub fn item_at<const W: usize, T: Item<W>>(bytes: &[u8], i: usize) -> T
+    requires { i < length (items_of W bytes.now) }
+    ensures { result ≡ T.stands_for (get_or (items_of W bytes.now) i 0) }
+{
+    T::get(bytes, W * i)
+}
+
+// Reads as many items as the list has places.
+pub fn read_items<const W: usize, T: Item<W>>(bytes: &[u8], items: &mut [T])
+    requires { W * length items.old ≤ length bytes.now }
+    ensures { items.new ≡ map T.stands_for (items_to W bytes.now (length items.old)) }
+{
+    for (i, item) in items.iter_mut().enumerate() {
+        *item = T::get(bytes, W * i);
+    }
+}
+
+// Writes a list of items to the front of a byte string, whose rest stays.
+pub fn write_items<const W: usize, T: Item<W>>(bytes: &mut [u8], items: &[T])
+    requires { W * length items.now ≤ length bytes.old }
+    ensures { bytes.new ≡ bytes_of W (map T.spelt items.now) ++ drop (W * length items.now) bytes.old }
+{
+    for (i, item) in items.iter().enumerate() {
+        item.put(bytes, W * i);
+    }
+}
+
+// The names before `Item`, until least, stream and byte_streams call it.
 pub fn get_u16(bytes: &[u8], at: usize) -> u16
     requires { at + 2 ≤ length bytes.now }
     ensures { result ≡ item 2 bytes.now at }
 {
-    bytes[at] as u16 + 256 * (bytes[at + 1] as u16)
+    u16::get(bytes, at)
 }
 
-// Puts `value` as the two-byte item that starts at the byte `at`.
 pub fn put_u16(bytes: &mut [u8], at: usize, value: u16)
     requires { at + 2 ≤ length bytes.old }
     ensures { bytes.new ≡ set_item 2 bytes.old at value }
 {
-    bytes[at] = (value % 256) as u8;
-    bytes[at + 1] = (value / 256) as u8;
+    value.put(bytes, at);
 }
 
-// The eight-byte item that starts at the byte `at`: four of two bytes.
 pub fn get_u64(bytes: &[u8], at: usize) -> u64
     requires { at + 8 ≤ length bytes.now }
     ensures { result ≡ item 8 bytes.now at }
 {
-    let first = get_u16(bytes, at) as u64;
-    let second = get_u16(bytes, at + 2) as u64;
-    let third = get_u16(bytes, at + 4) as u64;
-    let fourth = get_u16(bytes, at + 6) as u64;
-    first + 65536 * second + 4294967296 * third + 281474976710656 * fourth
+    Item::<8>::get(bytes, at)
 }
 
-// The item of `width` bytes that starts at the byte `at`.
-pub fn get(bytes: &[u8], at: usize, width: usize) -> u64
-    requires { (width ≤ 8) × (at + width ≤ length bytes.now) }
-    ensures { result ≡ item width bytes.now at }
-{
-    let mut i = width;
-    let mut value: u64 = 0;
-    while 0 < i {
-        i -= 1;
-        value = value * 256 + bytes[at + i] as u64;
-    }
-    value
-}
-
-// Puts `value` as the item of `width` bytes that starts at the byte `at`.
 pub fn put(bytes: &mut [u8], at: usize, width: usize, value: u64)
     requires { at + width ≤ length bytes.old }
     ensures { bytes.new ≡ set_item width bytes.old at value }
@@ -63,118 +165,10 @@ pub fn put(bytes: &mut [u8], at: usize, width: usize, value: u64)
     }
 }
 
-// The item of two bytes at place i.
-pub fn item_u16(bytes: &[u8], i: usize) -> u64
-    requires { i < length (items_of 2 bytes.now) }
-    ensures { result ≡ get_or (items_of 2 bytes.now) i 0 }
-{
-    get_u16(bytes, 2 * i) as u64
-}
-
-// The item of eight bytes at place i.
-pub fn item_u64(bytes: &[u8], i: usize) -> u64
-    requires { i < length (items_of 8 bytes.now) }
-    ensures { result ≡ get_or (items_of 8 bytes.now) i 0 }
-{
-    get_u64(bytes, 8 * i)
-}
-
-// Reads as many items of `width` bytes as the list has places.
-pub fn read_items(bytes: &[u8], width: usize, items: &mut [u64])
-    requires { (width ≤ 8) × (width * length items.old ≤ length bytes.now) }
-    ensures { items.new ≡ items_to width bytes.now (length items.old) }
-{
-    let mut i = 0;
-    let mut at = 0;
-    while i < items.len() {
-        items[i] = get(bytes, at, width);
-        at += width;
-        i += 1;
-    }
-}
-
-// Writes a list of items of `width` bytes to the front of a byte string, whose rest stays.
-pub fn write_items(bytes: &mut [u8], width: usize, items: &[u64])
-    requires { width * length items.now ≤ length bytes.old }
-    ensures { bytes.new ≡ bytes_of width items.now
-        ++ drop (width * length items.now) bytes.old }
-{
-    let mut i = 0;
-    let mut at = 0;
-    while i < items.len() {
-        put(bytes, at, width, items[i]);
-        at += width;
-        i += 1;
-    }
-}
-
-// Reads as many items of two bytes as the list has places.
-pub fn read_u16s(bytes: &[u8], items: &mut [u16])
-    requires { 2 * length items.old ≤ length bytes.now }
-    ensures { items.new ≡ items_to 2 bytes.now (length items.old) }
-{
-    let mut i = 0;
-    while i < items.len() {
-        items[i] = get_u16(bytes, 2 * i);
-        i += 1;
-    }
-}
-
-// Writes a list of items of two bytes to the front of a byte string, whose rest stays.
-pub fn write_u16s(bytes: &mut [u8], items: &[u16])
-    requires { 2 * length items.now ≤ length bytes.old }
-    ensures { bytes.new ≡ bytes_of 2 items.now
-        ++ drop (2 * length items.now) bytes.old }
-{
-    let mut i = 0;
-    while i < items.len() {
-        put_u16(bytes, 2 * i, items[i]);
-        i += 1;
-    }
-}
-
-// The number that 16 bits stand for in two's complement.
-fn signed(value: u16) -> i16
-    ensures { result ≡ signed_of value }
-{
-    if value < 32768 {
-        return value as i16;
-    }
-    (value as i32 - 65536) as i16
-}
-
-// The 16 bits that stand for a number in two's complement.
-fn unsigned(value: i16) -> u16
-    ensures { result ≡ unsigned_of value }
-{
-    if 0 <= value {
-        return value as u16;
-    }
-    (value as i32 + 65536) as u16
-}
-
-// Reads as many signed items of two bytes as the list has places.
 pub fn read_i16s(bytes: &[u8], items: &mut [i16])
     requires { 2 * length items.old ≤ length bytes.now }
     ensures { items.new
         ≡ map signed_of (items_to 2 bytes.now (length items.old)) }
 {
-    let mut i = 0;
-    while i < items.len() {
-        items[i] = signed(get_u16(bytes, 2 * i));
-        i += 1;
-    }
-}
-
-// Writes a list of signed items of two bytes to the front of a byte string, whose rest stays.
-pub fn write_i16s(bytes: &mut [u8], items: &[i16])
-    requires { 2 * length items.now ≤ length bytes.old }
-    ensures { bytes.new ≡ bytes_of 2 (map unsigned_of items.now)
-        ++ drop (2 * length items.now) bytes.old }
-{
-    let mut i = 0;
-    while i < items.len() {
-        put_u16(bytes, 2 * i, unsigned(items[i]));
-        i += 1;
-    }
+    read_items::<2, i16>(bytes, items);
 }

@@ -2,8 +2,8 @@
 // how many bytes of the buffer still hold the 7 that they held before. The texts themselves are compared by tests/report.
 #![tactic(auto)]
 
-use testing::number::plus;
-use testing::text::print;
+use testing::old::number::plus;
+use testing::old::text::print;
 
 // How many bytes are 7.
 fn count_sevens(bytes: &[u8]) -> u64 {

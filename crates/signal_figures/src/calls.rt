@@ -2,8 +2,8 @@
 
 use crate::outcome::{Outcome, SCRATCH, no_call};
 use std::num::wrapping_add_u64;
-use testing::list::{MARK, within};
-use testing::sample::{LEVEL_MARK, START_MARK, levels_of, starts_of};
+use testing::old::list::{MARK, within};
+use testing::old::sample::{LEVEL_MARK, START_MARK, levels_of, starts_of};
 
 // What a call is given beside the samples: the limit, the least length of a segment, the weights and how many of them are lent, the
 // penalty p / q, and the number of places of each buffer.

@@ -1,9 +1,9 @@
 // Weights that random calls are lent, what is right for them, and damaged ones. Nothing here is taken from the calls that are tested.
 
 use crate::calls::Arguments;
-use testing::list::{at, count_up, last, put};
-use testing::number::{minus, plus};
-use testing::random::{below, next};
+use testing::old::list::{at, count_up, last, put};
+use testing::old::number::{minus, plus};
+use testing::old::random::{below, next};
 
 // The number of kinds.
 const KINDS: u64 = 5;

@@ -1,12 +1,12 @@
 // The answer of an append or a build in plain numbers. Here alone the tests of a `PathResult` are read.
 
-use crate::number::NONE;
 use path::PathResult;
+use std::fmt;
 
-#[derive(Clone, Copy)]
+#[derive(Clone, Copy, PartialEq, Eq)]
 pub struct Answer {
     pub refusal: u64,
-    pub entries: u64,
+    pub entries: usize,
     pub tests: u64,
 }
 
@@ -16,20 +16,27 @@ pub fn tests_of(made: PathResult) -> u64 {
     path::tally::count(tests)
 }
 
-// What a call answers.
-pub fn answer_of(made: PathResult) -> Answer {
-    Answer {
-        refusal: made.refusal,
-        entries: made.entries as u64,
-        tests: tests_of(made),
+impl From<PathResult> for Answer {
+    fn from(made: PathResult) -> Answer {
+        Answer {
+            refusal: made.refusal,
+            entries: made.entries,
+            tests: tests_of(made),
+        }
     }
 }
 
-// The answer where a test could not make its call. No call refuses with NONE, so that it counts as a fault.
-pub fn no_call() -> Answer {
-    Answer {
-        refusal: NONE,
-        entries: NONE,
-        tests: NONE,
+impl fmt::Display for Answer {
+    fn fmt<W: fmt::Write>(&self, f: &mut fmt::Formatter<W>) -> fmt::Result {
+        write!(
+            f,
+            "refusal {} entries {} tests {}",
+            self.refusal, self.entries, self.tests,
+        )
     }
+}
+
+// How many of some facts do not hold.
+pub fn faults(facts: &[bool]) -> u64 {
+    facts.iter().filter(|holds| !**holds).count() as u64
 }

@@ -1,11 +1,11 @@
-// What the test programs share: numbers and lists that cannot fail, random numbers, samples, random signals, the search through all
-// models, segmentations and the plain dynamic programme, answers of calls, and text on standard output. Where a helper has no answer
-// it gives `number::NONE`, which counts as a fault wherever it is compared.
+// What the test programs share: models and the three lists in which the calls take them, random numbers and signals, the search
+// through all models, segmentations and the plain dynamic programme, answers of calls, and what is printed. Where a helper has no answer it
+// gives `None`, which no answer of a call equals, so that a fault of a test itself counts as a mismatch.
 #![tactic(auto)]
 
 pub mod answer;
-pub mod list;
-pub mod number;
+pub mod lists;
+pub mod old;
 pub mod programme;
 pub mod random;
 pub mod sample;

@@ -1,212 +1,161 @@
 // The least loss of each number of segments by a plain dynamic programme, which tries every start of a last segment. It follows
-// the rules alone, and nothing here is taken from the calls that are tested. The cell for k segments over the first j
-// samples is at place 513 k + j of a table. Samples and levels are raised.
+// the rules alone, and nothing here is taken from the calls that are tested. Within, samples and levels are raised by 32,768.
 
-use crate::list::{at, put};
-use crate::number::{NONE, divide, fault, minus, plus, times};
-use crate::segmentation;
-use crate::segmentation::{Segmentation, loss_at, with_segment};
+use crate::sample::{lower, raise};
+use crate::segmentation::{Segmentation, loss_at};
 
-// The number of cells of a table.
-pub const CELLS: usize = 16929;
-
-// What is known of a signal: the number of its samples, the sums of its first samples, the least loss of each size, the start of
-// the last segment, less one, in each cell, and the number of faults of the programme itself.
+// The sums of the first samples and of their squares, for each number of samples.
 #[derive(Clone, Copy)]
-pub struct Programme {
-    pub count: u64,
-    pub sums: [u64; 513],
-    pub least: [u64; 32],
-    pub starts: [u64; CELLS],
-    pub faults: u64,
+pub struct Sums {
+    sums: [u64; 513],
+    squares: [u64; 513],
 }
 
-// The start of a last segment, less one, and the loss with it.
-#[derive(Clone, Copy)]
-pub struct LastSegment {
-    pub start: u64,
-    pub loss: u64,
-}
+impl Sums {
+    // The sums of a signal, where it has at most 512 samples.
+    pub fn of(samples: &[i16]) -> Option<Self> {
+        let mut made = Sums {
+            sums: [0; 513],
+            squares: [0; 513],
+        };
+        let mut sum = 0u64;
+        let mut square = 0u64;
+        for (i, sample) in samples.iter().enumerate() {
+            let v = raise(*sample);
+            let next = i.checked_add(1)?;
+            sum = sum.checked_add(v)?;
+            square = square.checked_add(v.checked_mul(v)?)?;
+            *made.sums.get_mut(next)? = sum;
+            *made.squares.get_mut(next)? = square;
+        }
+        Some(made)
+    }
 
-// The place of a cell.
-pub fn place(k: u64, j: u64) -> usize {
-    plus(times(k, 513), j) as usize
-}
+    // The level of the samples after the first `from` as far as `to`: the whole number nearest to their mean, and of two equally near
+    // ones the lower.
+    fn level(&self, from: usize, to: usize) -> Option<u64> {
+        let n = to.checked_sub(from)? as u64;
+        let sum = self.sums.get(to)?.checked_sub(*self.sums.get(from)?)?;
+        let above = sum.checked_mul(2)?.checked_add(n)?.checked_sub(1)?;
+        above.checked_div(n.checked_mul(2)?)
+    }
 
-// Writes the sum of the first i + 1 samples and that of their squares after the sums of the first i.
-fn put_sum(samples: &[u64], i: usize, sums: &mut [u64], squares: &mut [u64]) {
-    let sample = at(samples, i);
-    let next = plus(i as u64, 1) as usize;
-    put(sums, next, plus(at(sums, i), sample));
-    put(squares, next, plus(at(squares, i), times(sample, sample)));
-}
+    // Their loss at that level: the sum of squares, less twice the level times the sum, and the square of the level for each sample.
+    fn loss(&self, from: usize, to: usize) -> Option<u64> {
+        let n = to.checked_sub(from)? as u64;
+        let sum = self.sums.get(to)?.checked_sub(*self.sums.get(from)?)?;
+        let square = self.squares.get(to)?.checked_sub(*self.squares.get(from)?)?;
+        let v = self.level(from, to)?;
+        let levels = v.checked_mul(v)?.checked_mul(n)?;
+        let both = sum.checked_mul(2)?.checked_mul(v)?;
+        square.checked_add(levels)?.checked_sub(both)
+    }
 
-// Writes the sums of the first samples and of their squares, for each number of samples. The first of both is 0.
-pub fn put_sums(samples: &[u64], count: u64, sums: &mut [u64], squares: &mut [u64]) {
-    for i in 0..count {
-        put_sum(samples, i as usize, sums, squares);
+    // The losses of all segments that end at sample `to`, by where they start.
+    fn losses(&self, to: usize) -> Option<[u64; 512]> {
+        let mut losses = [0; 512];
+        for (from, loss) in losses.get_mut(..to)?.iter_mut().enumerate() {
+            *loss = self.loss(from, to)?;
+        }
+        Some(losses)
     }
 }
 
-// The whole number nearest to the mean of n samples with a sum, and of two equally near ones the lower.
-fn level(sum: u64, n: u64) -> u64 {
-    divide(minus(plus(plus(sum, sum), n), 1), plus(n, n))
+// The start of a last segment, less one, and the loss of all segments with it.
+#[derive(Clone, Copy)]
+struct LastSegment {
+    start: usize,
+    loss: u64,
 }
 
-// The level of the samples after i as far as j.
-fn segment_level(sums: &[u64], i: u64, j: u64) -> u64 {
-    level(
-        minus(at(sums, j as usize), at(sums, i as usize)),
-        minus(j, i),
-    )
+// Cells of a table of least losses: the one for k segments over the first j samples is in row k at place j. It is none where there is
+// no such segmentation.
+#[derive(Clone, Copy)]
+pub struct Cells<const ROWS: usize> {
+    rows: [[Option<u64>; 513]; ROWS],
 }
 
-// The loss of the samples after i as far as j at their level: the sum of squares, less twice the level times the sum, and the
-// square of the level for each sample.
-fn segment_loss(sums: &[u64], squares: &[u64], i: u64, j: u64) -> u64 {
-    let sum = minus(at(sums, j as usize), at(sums, i as usize));
-    let square = minus(at(squares, j as usize), at(squares, i as usize));
-    let v = segment_level(sums, i, j);
-    let levels = times(times(v, v), minus(j, i));
-    minus(plus(square, levels), times(plus(sum, sum), v))
-}
-
-// Writes the losses of all segments that end at sample j, and returns the number of those that cannot be had, which are faults.
-pub fn put_losses(sums: &[u64], squares: &[u64], j: u64, losses: &mut [u64]) -> u64 {
-    let mut faults = 0;
-    for i in 0..j {
-        let loss = segment_loss(sums, squares, i, j);
-        put(losses, i as usize, loss);
-        faults = plus(faults, fault(loss != NONE));
+impl<const ROWS: usize> Cells<ROWS> {
+    // The cells over no samples: they have the loss 0 with no segments.
+    pub fn new() -> Self {
+        let mut made = Cells {
+            rows: [[None; 513]; ROWS],
+        };
+        made.put(0, 0, Some(0));
+        made
     }
-    faults
-}
 
-// The first of the best starts of the last of k + 1 segments over the first j samples. Where there is none the loss is NONE.
-pub fn best_start(least: &[u64], losses: &[u64], k: u64, j: u64) -> LastSegment {
-    let row = place(k, 0) as u64;
-    let mut start = NONE;
-    let mut best = NONE;
-    for i in 0..j {
-        let loss = plus(at(least, plus(row, i) as usize), at(losses, i as usize));
-        if loss < best {
-            start = i;
-            best = loss;
+    // The cells of a signal for up to so many segments, where there are so many rows.
+    pub fn solve(samples: &[i16], sums: &Sums, limit: usize) -> Option<Self> {
+        let mut made = Cells::new();
+        for (i, _) in samples.iter().enumerate() {
+            made.put_column(sums, limit, i.checked_add(1)?)?;
+        }
+        Some(made)
+    }
+
+    // The cell for k segments over the first j samples.
+    pub fn get(&self, k: usize, j: usize) -> Option<u64> {
+        *self.rows.get(k)?.get(j)?
+    }
+
+    // The cells over the first j samples, by their rows.
+    pub fn column(&self, j: usize) -> [Option<u64>; ROWS] {
+        let mut made = [None; ROWS];
+        for (cell, row) in made.iter_mut().zip(&self.rows) {
+            *cell = row.get(j).copied().flatten();
+        }
+        made
+    }
+
+    // Writes a cell, and nothing past the end.
+    pub fn put(&mut self, k: usize, j: usize, cell: Option<u64>) {
+        if let Some(row) = self.rows.get_mut(k) {
+            if let Some(place) = row.get_mut(j) {
+                *place = cell;
+            }
         }
     }
-    LastSegment {
-        start: start,
-        loss: best,
+
+    // Writes the cells for 1 to limit segments over the first j samples of a signal with these sums.
+    pub fn put_column(&mut self, sums: &Sums, limit: usize, j: usize) -> Option<()> {
+        let losses = sums.losses(j)?;
+        for k in 0..limit {
+            let best = best_start(self.rows.get(k)?, losses.get(..j)?);
+            self.put(k.checked_add(1)?, j, best.map(|last| last.loss));
+        }
+        Some(())
+    }
+
+    // The best segmentation of a signal with these sums into so many segments.
+    pub fn best(&self, samples: &[i16], sums: &Sums, segments: usize) -> Option<Segmentation> {
+        let mut ends = [samples.len(); ROWS];
+        for k in (0..segments).rev() {
+            let to = *ends.get(k.checked_add(1)?)?;
+            let losses = sums.losses(to)?;
+            let last = best_start(self.rows.get(k)?, losses.get(..to)?)?;
+            *ends.get_mut(k)? = last.start;
+        }
+        let mut made = Segmentation::none();
+        for pair in ends.get(..=segments)?.windows(2) {
+            let (from, to) = (*pair.first()?, *pair.last()?);
+            let level = lower(sums.level(from, to)?);
+            made.push(from, level, loss_at(samples, from, to, level)?)?;
+        }
+        Some(made)
     }
 }
 
-// Writes the cell for k + 1 segments over the first j samples.
-fn put_cell(least: &mut [u64], starts: &mut [u64], losses: &[u64], k: u64, j: u64) {
-    let best = best_start(least, losses, k, j);
-    let cell = place(plus(k, 1), j);
-    put(least, cell, best.loss);
-    put(starts, cell, best.start);
-}
-
-// Writes the cells for 1 to limit segments over the first j samples.
-fn put_cells(least: &mut [u64], starts: &mut [u64], losses: &[u64], limit: u64, j: u64) {
-    for k in 0..limit {
-        put_cell(least, starts, losses, k, j);
+// The first of the best starts of a last segment, where the segments before it have these least losses and itself these, by its start.
+fn best_start(least: &[Option<u64>], losses: &[u64]) -> Option<LastSegment> {
+    let mut best: Option<LastSegment> = None;
+    for (start, (before, loss)) in least.iter().zip(losses).enumerate() {
+        let sum = before.and_then(|before| before.checked_add(*loss));
+        if let Some(loss) = sum {
+            if best.is_none_or(|best| loss < best.loss) {
+                best = Some(LastSegment { start, loss });
+            }
+        }
     }
-}
-
-// Writes the cells over the first j samples for a signal with these sums, and returns the number of faults.
-pub fn put_end(
-    sums: &[u64],
-    squares: &[u64],
-    limit: u64,
-    j: u64,
-    least: &mut [u64],
-    starts: &mut [u64],
-) -> u64 {
-    let mut losses = [NONE; 512];
-    let faults = put_losses(sums, squares, j, &mut losses);
-    put_cells(least, starts, &losses, limit, j);
-    faults
-}
-
-// Writes all cells, and returns the number of faults. No samples have the loss 0 with no segments, and all other cells are NONE
-// before.
-fn put_table(
-    sums: &[u64],
-    squares: &[u64],
-    count: u64,
-    limit: u64,
-    least: &mut [u64],
-    starts: &mut [u64],
-) -> u64 {
-    let mut faults = 0;
-    put(least, 0, 0);
-    for i in 0..count {
-        let more = put_end(sums, squares, limit, plus(i, 1), least, starts);
-        faults = plus(faults, more);
-    }
-    faults
-}
-
-// The least losses of the sizes 1 to 32 over all samples, NONE for a size that does not occur.
-fn last_column(least: &[u64], count: u64) -> [u64; 32] {
-    let mut losses = [NONE; 32];
-    for k in 0..32 {
-        losses[k] = at(least, place(k as u64 + 1, count));
-    }
-    losses
-}
-
-// The programme of the first samples as far as a limit.
-pub fn solve(samples: &[u64], count: u64, limit: u64) -> Programme {
-    let mut sums = [0u64; 513];
-    let mut squares = [0u64; 513];
-    let mut least = [NONE; CELLS];
-    let mut starts = [NONE; CELLS];
-    put_sums(samples, count, &mut sums, &mut squares);
-    let faults = put_table(&sums, &squares, count, limit, &mut least, &mut starts);
-    Programme {
-        count: count,
-        sums: sums,
-        least: last_column(&least, count),
-        starts: starts,
-        faults: faults,
-    }
-}
-
-// Writes the starts, less one, of the segments of the best segmentation into so many, from the last segment back.
-pub fn put_starts(starts: &[u64], count: u64, segments: u64, list: &mut [u64]) {
-    let mut end = count;
-    for i in 0..segments {
-        let k = minus(segments, i);
-        end = at(starts, place(k, end));
-        put(list, minus(k, 1) as usize, end);
-    }
-}
-
-// The segmentation with these starts, less one, each level and loss found from the samples themselves. After the last start
-// comes the number of samples.
-pub fn segmentation_at(samples: &[u64], sums: &[u64], list: &[u64], segments: u64) -> Segmentation {
-    let mut made = segmentation::empty();
-    for i in 0..segments {
-        let from = at(list, i as usize);
-        let to = at(list, plus(i, 1) as usize);
-        let level = segment_level(sums, from, to);
-        made = with_segment(made, from, level, loss_at(samples, from, to, level));
-    }
-    made
-}
-
-// The best segmentation into so many segments. It has no segments where these are more than 32, as where they are NONE.
-pub fn best(samples: &[u64], found: Programme, segments: u64) -> Segmentation {
-    if 32 < segments {
-        return segmentation::empty();
-    }
-    let sums = found.sums;
-    let starts = found.starts;
-    let mut list = [NONE; 33];
-    put(&mut list, segments as usize, found.count);
-    put_starts(&starts, found.count, segments, &mut list);
-    segmentation_at(samples, &sums, &list, segments)
+    best
 }

@@ -1,151 +1,84 @@
-// What is right for the first n models of three lists, found by looking at all of them: the path and the model at a penalty. They
-// may stand in any order, save that a path lists its entries in theirs. Costs go by losses and weights, and sizes decide only between
-// models that cost the same. Nothing here is taken from the calls that are tested.
+// What is right for some models, found by looking at all of them: the path and the model at a penalty. They may stand in any order, save
+// that a path lists its entries in theirs. Costs go by losses and weights, and sizes decide only between models that cost the same.
+// Nothing here is taken from the calls that are tested.
 
-use crate::list::{at, put};
-use crate::number::{NONE, minus, plus, times};
+use crate::lists::{Lists, Model};
 
 // Whether a size, a loss and a weight are in range.
-pub fn in_range(size: u64, loss: u64, weight: u64) -> bool {
-    let rising = 0 < size && size < 65536 && 0 < weight && weight < 65536;
-    rising && loss < 17592186044417
+pub fn in_range(model: Model) -> bool {
+    let rising = 0 < model.size && model.size < 65536 && 0 < model.weight && model.weight < 65536;
+    rising && model.loss < 17592186044417
 }
 
-// Whether all models are in range, so that every product below can be had.
-fn all_in_range(sizes: &[u64], losses: &[u64], weights: &[u64], n: usize) -> bool {
-    for i in 0..n {
-        if !in_range(at(sizes, i), at(losses, i), at(weights, i)) {
-            return false;
+// The cost of a model at the penalty p / q, times q, where it is not too large.
+fn cost(model: Model, p: u64, q: u64) -> Option<u64> {
+    let loss = model.loss.checked_mul(q)?;
+    let weight = model.weight.checked_mul(p)?;
+    loss.checked_add(weight)
+}
+
+// The cheapest of some models at the penalty p / q, of those that cost the same the smallest. There is none without models, nor where
+// a cost is too large.
+pub fn cheapest(models: &[Model], p: u64, q: u64) -> Option<Model> {
+    let mut best = *models.first()?;
+    let mut least = cost(best, p, q)?;
+    for model in models {
+        let cost = cost(*model, p, q)?;
+        if (cost, model.size) < (least, best.size) {
+            best = *model;
+            least = cost;
         }
     }
-    true
+    Some(best)
 }
 
-// The cost of model i at the penalty p / q, times q.
-fn cost(losses: &[u64], weights: &[u64], i: usize, p: u64, q: u64) -> u64 {
-    plus(times(at(losses, i), q), times(p, at(weights, i)))
+// Whether a model costs less than another at some penalty: its weight or its loss is smaller.
+fn wins_once(model: Model, other: Model) -> bool {
+    model.weight < other.weight || model.loss < other.loss
 }
 
-// The cheaper of two models at the penalty p / q, of two that cost the same the smaller one, and NONE where a cost cannot be had.
-fn cheaper(
-    sizes: &[u64],
-    losses: &[u64],
-    weights: &[u64],
-    i: usize,
-    j: usize,
-    p: u64,
-    q: u64,
-) -> usize {
-    let first = cost(losses, weights, i, p, q);
-    let second = cost(losses, weights, j, p, q);
-    if first == NONE || second == NONE {
-        return NONE as usize;
-    }
-    if second == first && at(sizes, j) < at(sizes, i) {
-        return j;
-    }
-    if second < first { j } else { i }
-}
-
-// The index of the smallest of the cheapest models at the penalty p / q, and NONE where it cannot be had.
-pub fn cheapest(sizes: &[u64], losses: &[u64], weights: &[u64], n: usize, p: u64, q: u64) -> usize {
-    let mut best = if n == 0 { NONE as usize } else { 0 };
-    for i in 0..n {
-        best = cheaper(sizes, losses, weights, best, i, p, q);
-    }
-    best
-}
-
-// Whether model i costs less than h at some penalty: its weight or its loss is smaller. It is not held against itself.
-fn wins_once(losses: &[u64], weights: &[u64], h: usize, i: usize) -> bool {
-    i == h || at(weights, i) < at(weights, h) || at(losses, i) < at(losses, h)
-}
-
-// Whether the penalty at which model j begins to cost less than i lies below the one at which i begins to cost less than h,
-// where h is lighter than i and j heavier. Of other models nothing is asked.
-fn wins_between(losses: &[u64], weights: &[u64], h: usize, i: usize, j: usize) -> bool {
-    if at(weights, i) <= at(weights, h) || at(weights, j) <= at(weights, i) {
+// Whether the penalty at which a heavier model begins to cost less than a model lies below the one at which this begins to cost less
+// than a lighter one. Of other models nothing is asked. No product is cut, since all are in range.
+fn wins_between(model: Model, lighter: Model, heavier: Model) -> bool {
+    if model.weight <= lighter.weight || heavier.weight <= model.weight {
         return true;
     }
-    let to_heavier = times(
-        minus(at(losses, i), at(losses, j)),
-        minus(at(weights, i), at(weights, h)),
-    );
-    let from_lighter = times(
-        minus(at(losses, h), at(losses, i)),
-        minus(at(weights, j), at(weights, i)),
-    );
-    to_heavier < from_lighter
+    let to_heavier = model.loss.saturating_sub(heavier.loss);
+    let from_lighter = lighter.loss.saturating_sub(model.loss);
+    to_heavier.saturating_mul(model.weight - lighter.weight)
+        < from_lighter.saturating_mul(heavier.weight - model.weight)
 }
 
-// Whether model i costs less than h at some penalty, and the same as above for every other model.
-fn wins_against(losses: &[u64], weights: &[u64], n: usize, h: usize, i: usize) -> bool {
-    for j in 0..n {
-        if !wins_between(losses, weights, h, i, j) {
-            return false;
-        }
-    }
-    wins_once(losses, weights, h, i)
+// Whether model i is alone the cheapest of some at some penalty. It is not held against itself.
+fn wins(models: &[Model], i: usize, model: Model) -> bool {
+    let once = models
+        .iter()
+        .enumerate()
+        .all(|(h, other)| h == i || wins_once(model, *other));
+    once && models.iter().all(|lighter| {
+        models
+            .iter()
+            .all(|heavier| wins_between(model, *lighter, *heavier))
+    })
 }
 
-// Whether model i is alone the cheapest at some penalty.
-fn wins(losses: &[u64], weights: &[u64], n: usize, i: usize) -> bool {
-    for h in 0..n {
-        if !wins_against(losses, weights, n, h, i) {
-            return false;
-        }
-    }
-    true
-}
-
-// Writes model i after so many entries of a path where it wins, and returns the number of entries after that.
-fn put_entry(
-    sizes: &[u64],
-    losses: &[u64],
-    weights: &[u64],
-    n: usize,
-    i: usize,
-    path_sizes: &mut [u64],
-    path_losses: &mut [u64],
-    path_weights: &mut [u64],
-    entries: u64,
-) -> u64 {
-    if !wins(losses, weights, n, i) {
-        return entries;
-    }
-    put(path_sizes, entries as usize, at(sizes, i));
-    put(path_losses, entries as usize, at(losses, i));
-    put(path_weights, entries as usize, at(weights, i));
-    plus(entries, 1)
-}
-
-// Writes the path of the models to the front of three lists, and returns its number of entries. It is NONE where a model is out of
+// Writes the path of some models to the front of three lists, and returns its number of entries. There is none where a model is out of
 // range.
-pub fn put_path(
-    sizes: &[u64],
-    losses: &[u64],
-    weights: &[u64],
-    n: usize,
-    path_sizes: &mut [u64],
-    path_losses: &mut [u64],
-    path_weights: &mut [u64],
-) -> u64 {
-    if !all_in_range(sizes, losses, weights, n) {
-        return NONE;
+pub fn put_path<const N: usize>(models: &[Model], path: &mut Lists<N>) -> Option<usize> {
+    if !models.iter().all(|model| in_range(*model)) {
+        return None;
     }
-    let mut entries = 0;
-    for i in 0..n {
-        entries = put_entry(
-            sizes,
-            losses,
-            weights,
-            n,
-            i,
-            path_sizes,
-            path_losses,
-            path_weights,
-            entries,
-        );
+    let mut entries = 0usize;
+    for (i, model) in models.iter().enumerate() {
+        if wins(models, i, *model) {
+            path.put(entries, *model);
+            entries = entries.saturating_add(1);
+        }
     }
-    entries
+    Some(entries)
+}
+
+// The number of entries of that path.
+pub fn path_length(models: &[Model]) -> Option<usize> {
+    put_path(models, &mut Lists::<0>::marks())
 }

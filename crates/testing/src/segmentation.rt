@@ -1,88 +1,58 @@
-// A segmentation that is right. Samples and levels are raised. Nothing here is taken from the calls that are tested.
+// A segmentation that is right. Nothing here is taken from the calls that are tested.
 
-use crate::list::{MARK, at, count_up, fill, put};
-use crate::number::{NONE, minus, plus, times};
-use crate::search::put_path;
+use crate::lists::Model;
+use crate::sample::{LEVEL_MARK, START_MARK};
 
-// The number of segments, their loss, their starts, counted from 1, and their levels, with marks after these.
-#[derive(Clone, Copy)]
+// The number of segments, their loss, and the buffers of their starts, counted from 1, and their levels, as they are after the call.
+#[derive(Clone, Copy, PartialEq, Eq)]
 pub struct Segmentation {
-    pub count: u64,
+    pub segments: usize,
     pub loss: u64,
-    pub starts: [u64; 40],
-    pub levels: [u64; 40],
+    pub starts: [u16; 40],
+    pub levels: [i16; 40],
 }
 
-// No segments.
-pub fn empty() -> Segmentation {
-    Segmentation {
-        count: 0,
-        loss: 0,
-        starts: [MARK; 40],
-        levels: [MARK; 40],
+impl Segmentation {
+    // No segments, and buffers as before.
+    pub fn none() -> Self {
+        Segmentation {
+            segments: 0,
+            loss: 0,
+            starts: [START_MARK; 40],
+            levels: [LEVEL_MARK; 40],
+        }
+    }
+
+    // Adds a segment after the first samples as far as `from`, where there is a place for it.
+    pub fn push(&mut self, from: usize, level: i16, loss: u64) -> Option<()> {
+        let n = self.segments;
+        *self.starts.get_mut(n)? = u16::try_from(from).ok()?.checked_add(1)?;
+        *self.levels.get_mut(n)? = level;
+        self.segments = n.checked_add(1)?;
+        self.loss = self.loss.checked_add(loss)?;
+        Some(())
     }
 }
 
-// A segmentation with one segment more, after the sample `from`.
-pub fn with_segment(before: Segmentation, from: u64, level: u64, loss: u64) -> Segmentation {
-    let mut starts = before.starts;
-    let mut levels = before.levels;
-    put(&mut starts, before.count as usize, plus(from, 1));
-    put(&mut levels, before.count as usize, level);
-    Segmentation {
-        count: plus(before.count, 1),
-        loss: plus(before.loss, loss),
-        starts: starts,
-        levels: levels,
+// The loss at a level of the samples after the first `from` as far as `to`, where there are so many.
+pub fn loss_at(samples: &[i16], from: usize, to: usize, level: i16) -> Option<u64> {
+    let mut loss = 0u64;
+    for sample in samples.get(from..to)? {
+        let distance = u64::from(sample.abs_diff(level));
+        loss = loss.checked_add(distance * distance)?;
     }
+    Some(loss)
 }
 
-// The square of the difference of two numbers.
-fn square(a: u64, b: u64) -> u64 {
-    let d = plus(minus(a, b), minus(b, a));
-    times(d, d)
-}
-
-// The loss at a level of the samples after `from` as far as `to`, and NONE where there are not so many.
-pub fn loss_at(samples: &[u64], from: u64, to: u64, level: u64) -> u64 {
-    if (samples.len() as u64) < to {
-        return NONE;
+// Writes the models of the sizes 1, 2 and so on, with their losses and weights. There is none where one of them lacks its loss or its
+// weight.
+pub fn put_sizes(losses: &[Option<u64>], weights: &[u64], models: &mut [Model]) -> Option<()> {
+    for (i, model) in models.iter_mut().enumerate() {
+        *model = Model {
+            size: (i as u64).checked_add(1)?,
+            loss: (*losses.get(i)?)?,
+            weight: *weights.get(i)?,
+        };
     }
-    let mut loss = 0;
-    for i in from..to {
-        loss = plus(loss, square(at(samples, i as usize), level));
-    }
-    loss
-}
-
-// The sizes 1 to 32.
-pub fn sizes() -> [u64; 32] {
-    let mut sizes = [0u64; 32];
-    count_up(&mut sizes);
-    sizes
-}
-
-// Writes the path where so many sizes occur, with these losses and weights, and zeros after it as far as there are sizes. Returns its
-// number of entries.
-pub fn put_size_path(
-    losses: &[u64],
-    weights: &[u64],
-    most: usize,
-    path_sizes: &mut [u64],
-    path_losses: &mut [u64],
-    path_weights: &mut [u64],
-) -> u64 {
-    let all = sizes();
-    fill(path_sizes, most, 0);
-    fill(path_losses, most, 0);
-    fill(path_weights, most, 0);
-    put_path(
-        &all,
-        losses,
-        weights,
-        most,
-        path_sizes,
-        path_losses,
-        path_weights,
-    )
+    Some(())
 }

@@ -1,96 +1,134 @@
-// Random signals of many kinds, raised.
+// Random signals of many kinds. Their samples are drawn raised by 32,768.
 
-use crate::list::put;
-use crate::number::{minus, plus, times};
-use crate::random::{below, next};
+use crate::random::next;
+use crate::sample::lower;
 
-// The number of kinds of long signals.
-pub const KINDS: u64 = 12;
-
-// Samples of a kind are drawn from so many numbers, from the lowest on and each a step above the one before. They are raised.
+// The samples of a short signal, in the order of the kinds below: 0 to 2, -2 to 2, -1 to 0, -7 to -1, the lowest 8 and the highest 8
+// samples, -100 to 100, the lowest and the highest, these and four between, and all.
 #[derive(Clone, Copy)]
-struct Kind {
-    lowest: u64,
-    step: u64,
-    values: u64,
+enum Values {
+    ToTwo,
+    AroundZero,
+    BelowOne,
+    Negative,
+    Lowest,
+    Highest,
+    Hundreds,
+    Extremes,
+    SixApart,
+    All,
 }
 
-fn kind_of(lowest: u64, step: u64, values: u64) -> Kind {
-    Kind {
-        lowest: lowest,
-        step: step,
-        values: values,
+const VALUES: [Values; 10] = [
+    Values::ToTwo,
+    Values::AroundZero,
+    Values::BelowOne,
+    Values::Negative,
+    Values::Lowest,
+    Values::Highest,
+    Values::Hundreds,
+    Values::Extremes,
+    Values::SixApart,
+    Values::All,
+];
+
+impl Values {
+    // One of them from a random number, raised.
+    fn draw(self, x: u64) -> u64 {
+        match self {
+            Values::ToTwo => 32768 + x % 3,
+            Values::AroundZero => 32766 + x % 5,
+            Values::BelowOne => 32767 + x % 2,
+            Values::Negative => 32761 + x % 7,
+            Values::Lowest => x % 8,
+            Values::Highest => 65528 + x % 8,
+            Values::Hundreds => 32668 + x % 201,
+            Values::Extremes => x % 2 * 65535,
+            Values::SixApart => x % 6 * 13107,
+            Values::All => x % 65536,
+        }
     }
 }
 
-// The kinds: 0 to 2, -2 to 2, -1 to 0, -7 to -1, the lowest 8 and the highest 8 samples, -100 to 100, the lowest and the
-// highest, these and four between, and all.
-fn kind_at(i: u64) -> Kind {
-    match i % 10 {
-        0 => kind_of(32768, 1, 3),
-        1 => kind_of(32766, 1, 5),
-        2 => kind_of(32767, 1, 2),
-        3 => kind_of(32761, 1, 7),
-        4 => kind_of(0, 1, 8),
-        5 => kind_of(65528, 1, 8),
-        6 => kind_of(32668, 1, 201),
-        7 => kind_of(0, 65535, 2),
-        8 => kind_of(0, 13107, 6),
-        _ => kind_of(0, 1, 65536),
-    }
-}
-
-// Draws raised samples of a kind, as many as there are places, and returns the last random number.
-fn draw_kind(kind: Kind, seed: u64, raised: &mut [u64]) -> u64 {
+// Draws the samples of the short signal i, of every kind in turn, and returns the last random number.
+pub fn draw_short(i: u64, seed: u64, samples: &mut [i16]) -> u64 {
+    let values = VALUES[(i % 10) as usize];
     let mut x = seed;
-    for i in 0..raised.len() {
+    for sample in samples.iter_mut() {
         x = next(x);
-        let drawn = times(below(x, kind.values), kind.step);
-        put(raised, i, plus(kind.lowest, drawn));
+        *sample = lower(values.draw(x));
     }
     x
 }
 
-// Draws raised samples of kind i of short signals, and returns the last random number.
-pub fn draw_short(i: u64, seed: u64, raised: &mut [u64]) -> u64 {
-    draw_kind(kind_at(i), seed, raised)
+// A kind of long signals: two, three and five values, constant stretches of two and of three values, steps of 16 samples, slow, even
+// and repeated ramps, the lowest and the highest sample, all samples, and a walk.
+#[derive(Clone, Copy)]
+pub enum Kind {
+    Two,
+    Three,
+    Five,
+    TwoStretches,
+    ThreeStretches,
+    Steps,
+    SlowRamp,
+    EvenRamp,
+    RepeatedRamp,
+    Extremes,
+    All,
+    Walk,
 }
 
-// Sample i of a kind, raised, from a random number and the sample before: two, three and five values, constant stretches of two
-// and of three values, steps of 16 samples, slow, even and repeated ramps, the lowest and the highest sample, all samples, and a
-// walk.
-fn sample(kind: u64, i: u64, x: u64, before: u64) -> u64 {
-    match kind {
-        0 => 32768 + x % 2,
-        1 => 32767 + x % 3,
-        2 => 32766 + x % 5,
-        3 => if x % 9 == 0 {
-            65535 - before % 65536
-        } else {
-            before
-        },
-        4 => if x % 12 == 0 {
-            32000 + next(x) % 3 * 500
-        } else {
-            before
-        },
-        5 => 32768 + next(next(i / 16 + 77)) % 4,
-        6 => 32600 + i % 512 / 3,
-        7 => 7168 + i % 512 * 100,
-        8 => 32768 + i % 20,
-        9 => x % 2 * 65535,
-        10 => x % 65536,
-        _ => plus(minus(before, 3), x % 7),
+pub const KINDS: [Kind; 12] = [
+    Kind::Two,
+    Kind::Three,
+    Kind::Five,
+    Kind::TwoStretches,
+    Kind::ThreeStretches,
+    Kind::Steps,
+    Kind::SlowRamp,
+    Kind::EvenRamp,
+    Kind::RepeatedRamp,
+    Kind::Extremes,
+    Kind::All,
+    Kind::Walk,
+];
+
+impl Kind {
+    // Sample i of the kind, raised, from a random number and the sample before.
+    fn sample(self, i: u64, x: u64, before: u64) -> u64 {
+        match self {
+            Kind::Two => 32768 + x % 2,
+            Kind::Three => 32767 + x % 3,
+            Kind::Five => 32766 + x % 5,
+            Kind::TwoStretches => if x % 9 == 0 {
+                65535 - before % 65536
+            } else {
+                before
+            },
+            Kind::ThreeStretches => if x % 12 == 0 {
+                32000 + next(x) % 3 * 500
+            } else {
+                before
+            },
+            Kind::Steps => 32768 + next(next(i / 16 + 77)) % 4,
+            Kind::SlowRamp => 32600 + i % 512 / 3,
+            Kind::EvenRamp => 7168 + i % 512 * 100,
+            Kind::RepeatedRamp => 32768 + i % 20,
+            Kind::Extremes => x % 2 * 65535,
+            Kind::All => x % 65536,
+            Kind::Walk => before.saturating_sub(3).saturating_add(x % 7),
+        }
     }
-}
 
-// Draws 512 raised samples of a kind, of which there are KINDS.
-pub fn draw_signal(kind: u64, seed: u64, raised: &mut [u64]) {
-    let mut x = seed;
-    let mut before = 32768;
-    for i in 0..512u64 {
-        x = next(x);
-        before = sample(kind, i, x, before);
-        put(raised, i as usize, before);
+    // Draws the samples of a signal of the kind.
+    pub fn draw(self, seed: u64, samples: &mut [i16]) {
+        let mut x = seed;
+        let mut before = 32768;
+        for (i, sample) in samples.iter_mut().enumerate() {
+            x = next(x);
+            before = self.sample(i as u64, x, before);
+            *sample = lower(before);
+        }
     }
 }

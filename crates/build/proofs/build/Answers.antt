@@ -1,54 +1,15 @@
--- `build::build` meets its contract: refused, or copied and then built.
-use mathlib.Core.Path.{◌≡◌, ap, sym, subst, ◌∙◌}
-use lib.ListN.{length}
-use Rattle.path.specs.Model.{Lists, lists, lengths}
-use Rattle.path.specs.Refusal.{refusal_of}
+-- `build::build` meets its contract: it is the build that pushes the models one by one.
+use mathlib.Core.Path.{ap, ◌∙◌}
+use Rattle.path.specs.Model.{lists}
 use Rattle.path.specs.declared.PathResult.{PathResult}
 use Rattle.path.specs.Append.{path_outcome}
-use Rattle.path.specs.Inner.{first_places}
-use Rattle.build.specs.Build.{build_checks, build_left}
-use Rattle.build.specs.Inner.{Fillable}
-use Rattle.build.proofs.Lists.{buildable}
-use Rattle.build.proofs.Cases.{build-refused, may-copy, may-fill-copied, build-done}
+use Rattle.build.proofs.Cases.{build-is}
 use Rattle.build.proofs.build.Goals as goal
-
-pub returns-then-refusal-ne0 : goal.returns-then-refusal-ne0
-returns-then-refusal-ne0 c =
-    let given : Lists = lists c.args.sizes.now c.args.losses.now c.args.weights.now in
-    let lent : Lists = lists c.args.path_sizes.now c.args.path_losses.now c.args.path_weights.now in
-    let s = c in
-    let r = c.build_refusal-refusal in
-    ap (λ (x : PathResult). path_outcome x lent) c.refuse.ensures
-    ∙ build-refused given lent r.result r.ensures c.if-refusal-ne0.true
-
-pub copy_models-requires : goal.copy_models-requires
-copy_models-requires c =
-    let given : Lists = lists c.args.sizes.now c.args.losses.now c.args.weights.now in
-    let lent : Lists = lists c.args.path_sizes.now c.args.path_losses.now c.args.path_weights.now in
-    let pass : refusal_of (build_checks given (lengths lent)) ≡ 0 = sym c.build_refusal-refusal.ensures ∙ c.if-refusal-ne0.false in
-    let e = c in
-    let f = buildable given lent pass in
-    may-copy given lent (length c.args.sizes.now) f.0 f.1
-
-pub build_front-requires : goal.build_front-requires
-build_front-requires c =
-    let given : Lists = lists c.args.sizes.now c.args.losses.now c.args.weights.now in
-    let lent : Lists = lists c.args.path_sizes.now c.args.path_losses.now c.args.path_weights.now in
-    let pass : refusal_of (build_checks given (lengths lent)) ≡ 0 = sym c.build_refusal-refusal.ensures ∙ c.if-refusal-ne0.false in
-    let e = c in
-    let s = c in
-    let n = length s.args.sizes.now in
-    let f = buildable given lent pass in
-    subst (λ (b : Lists). Fillable b n) (sym c.copy_models.ensures) (may-fill-copied given lent n f.0 f.1)
 
 pub returns : goal.returns
 returns c =
-    let given : Lists = lists c.args.sizes.now c.args.losses.now c.args.weights.now in
-    let lent : Lists = lists c.args.path_sizes.now c.args.path_losses.now c.args.path_weights.now in
-    let pass : refusal_of (build_checks given (lengths lent)) ≡ 0 = sym c.build_refusal-refusal.ensures ∙ c.if-refusal-ne0.false in
-    let e = c in
-    let s = c in
-    let n = length s.args.sizes.now in
-    c.build_front.ensures
-    ∙ ap (λ (b : Lists). build_left (first_places n b) n b) c.copy_models.ensures
-    ∙ build-done given lent pass
+    let a = c.args in
+    let b = c.build_with in
+    ap (λ (x : PathResult). path_outcome x (lists b.new.path_sizes b.new.path_losses b.new.path_weights)) c.from.ensures
+    ∙ b.ensures
+    ∙ build-is (lists a.sizes.now a.losses.now a.weights.now) (lists a.path_sizes.now a.path_losses.now a.path_weights.now)

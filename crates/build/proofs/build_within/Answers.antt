@@ -1,36 +1,25 @@
 -- `build::build_within` meets its contract: refused, or built where the models are.
-use mathlib.Core.Path.{◌≡◌, ap, sym, ◌∙◌}
-use mathlib.Core.List.{List, [], ◌∷◌}
-use Prim.Native.Nat.{ℕ}
-use Rattle.path.specs.Model.{Lists, lists}
-use Rattle.path.specs.Refusal.{refusal_of}
-use Rattle.path.specs.declared.PathResult.{PathResult}
-use Rattle.path.specs.Append.{path_outcome}
-use Rattle.build.specs.Build.{built, built_tests, build_checks}
+use mathlib.Core.Path.{sym, ◌∙◌}
+use Rattle.std.proofs.lemmas.Result.{err_from_is_err_and}
+use Rattle.path.specs.Model.{lists}
+use Rattle.path.proofs.Numbers.{number_some}
 use Rattle.build.proofs.Cases.{within-refused, may-fill-within, within-done}
 use Rattle.build.proofs.build_within.Goals as goal
 
-pub returns-then-refusal-ne0 : goal.returns-then-refusal-ne0
-returns-then-refusal-ne0 c =
-    let given : Lists = lists c.args.sizes.now c.args.losses.now c.args.weights.now in
-    let rooms : List ℕ = c.args.sizes_room ∷ c.args.losses_room ∷ c.args.weights_room ∷ [] in
-    let s = c in
-    let r = c.build_refusal-refusal in
-    ap (λ (x : PathResult). path_outcome x given) c.refuse.ensures
-    ∙ within-refused built built_tests given rooms r.result r.ensures c.if-refusal-ne0.true
+pub returns-in_err-check_build : goal.returns-in_err-check_build
+returns-in_err-check_build g c =
+    let a = c.args in
+    let m = g.M.Method in
+    let p = err_from_is_err_and c.from_residual.result c.from_residual.ensures.1 in
+    rw (p.1, p.2) (within-refused m.path m.tests (lists a.sizes.now a.losses.now a.weights.now) a.rooms _ c.in_err-check_build.ensures (number_some c.in_err-check_build.field-0.0))
 
 pub build_front-requires : goal.build_front-requires
-build_front-requires c =
-    let given : Lists = lists c.args.sizes.now c.args.losses.now c.args.weights.now in
-    let rooms : List ℕ = c.args.sizes_room ∷ c.args.losses_room ∷ c.args.weights_room ∷ [] in
-    let pass : refusal_of (build_checks given rooms) ≡ 0 = sym c.build_refusal-refusal.ensures ∙ c.if-refusal-ne0.false in
-    let e = c in
-    may-fill-within given rooms pass
+build_front-requires g c =
+    let a = c.args in
+    may-fill-within (lists a.sizes.now a.losses.now a.weights.now) a.rooms (sym c.in_ok-check_build.ensures)
 
 pub returns : goal.returns
-returns c =
-    let given : Lists = lists c.args.sizes.now c.args.losses.now c.args.weights.now in
-    let rooms : List ℕ = c.args.sizes_room ∷ c.args.losses_room ∷ c.args.weights_room ∷ [] in
-    let pass : refusal_of (build_checks given rooms) ≡ 0 = sym c.build_refusal-refusal.ensures ∙ c.if-refusal-ne0.false in
-    let e = c in
-    c.build_front.ensures ∙ within-done built built_tests given rooms pass
+returns g c =
+    let a = c.args in
+    let m = g.M.Method in
+    c.build_front.ensures ∙ within-done m.path m.tests (lists a.sizes.now a.losses.now a.weights.now) a.rooms (sym c.in_ok-check_build.ensures)

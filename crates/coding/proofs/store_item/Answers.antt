@@ -1,49 +1,54 @@
 -- `coding::store_item` meets its contract: the value is put, and zeros after it.
-use Prim.Native.Nat.{◌+◌, ◌/◌}
+use mathlib.Core.Path.{refl, ap, ◌∙◌}
+use Prim.Native.Nat.{ℕ, ◌+◌, ◌/◌}
 use native.Mathlib.Nat.{mul-suc, div-le_self}
 use native.Mathlib.Omega.{arith}
-use lib.ListN.{length}
-use Rattle.layout.specs.Items.{Bytes}
+use lib.ListN.{length, replicate, length-take, length-drop}
 use Rattle.layout.proofs.ItemLists.{length-items}
 use Rattle.coding.proofs.Strings.{bytes-held}
-use Rattle.coding.proofs.Stores.{store-inside, stored}
+use Rattle.coding.proofs.Stores.{store-inside, store-end, stored}
 use Rattle.coding.proofs.store_item.Goals as goal
 
-pub overflow_mul-width : goal.overflow_mul-width
-overflow_mul-width c =
-    let held : Bytes c.args.bytes.now = bytes-held c.args.bytes.now c.slice_known-1.given in
-    let s = c in
-    let a = s.args in
-    omega (arith, store-inside a.width a.bytes.now a.kept a.n a.value s.requires held a.kept (omega (arith, s.requires.inside)))
+pub overflow_mul-kept : goal.overflow_mul-kept
+overflow_mul-kept g c =
+    let a = c.args in
+    let b = a.bytes.now in
+    omega (arith, c.requires.inside, store-inside g.row.W b a.kept a.n 0 c.requires (bytes-held b c.slice_known-1.given) a.kept (omega (arith, c.requires.inside)))
 
 pub put-requires : goal.put-requires
-put-requires c =
-    let held : Bytes c.args.bytes.now = bytes-held c.args.bytes.now c.slice_known-1.given in
-    let s = c in
-    let a = s.args in
-    omega (arith, mul-suc a.width a.kept, store-inside a.width a.bytes.now a.kept a.n a.value s.requires held (a.kept + 1) (omega (arith, s.requires.inside)))
-
-pub overflow_add-kept : goal.overflow_add-kept
-overflow_add-kept c =
-    let s = c in
-    let a = s.args in
+put-requires g c =
+    let a = c.args in
     let b = a.bytes.now in
-    omega (arith, s.requires.inside, length-items a.width b (length b / a.width), div-le_self (length b) a.width)
+    omega (arith, mul-suc g.row.W a.kept, store-inside g.row.W b a.kept a.n 0 c.requires (bytes-held b c.slice_known-1.given) (a.kept + 1) (omega (arith, c.requires.inside)))
 
-pub clear_items-requires : goal.clear_items-requires
-clear_items-requires c =
-    let held : Bytes c.args.bytes.now = bytes-held c.args.bytes.now c.slice_known-1.given in
-    let k = c in
-    let s = k in
-    let a = s.args in
-    let inside = store-inside a.width a.bytes.now a.kept a.n a.value s.requires held in
-    let same = c.put.auto.bytes in
-    (omega (arith, same, inside (a.kept + 1) (omega (arith, s.requires.inside))), omega (arith, same, inside a.n s.requires.room))
+pub overflow_add-after : goal.overflow_add-after
+overflow_add-after g c =
+    let a = c.args in
+    let b = a.bytes.now in
+    omega (arith, c.requires.inside, length-items g.row.W b (length b / g.row.W), div-le_self (length b) g.row.W)
+
+pub overflow_mul-after : goal.overflow_mul-after
+overflow_mul-after g c =
+    let a = c.args in
+    let b = a.bytes.now in
+    omega (arith, store-inside g.row.W b a.kept a.n 0 c.requires (bytes-held b c.slice_known-1.given) (a.kept + 1) (omega (arith, c.requires.inside)))
+
+pub overflow_mul-n : goal.overflow_mul-n
+overflow_mul-n g c =
+    let a = c.args in
+    let b = a.bytes.now in
+    omega (arith, store-inside g.row.W b a.kept a.n 0 c.requires (bytes-held b c.slice_known-1.given) a.n c.requires.room)
+
+pub slice_bounds-fill-end : goal.slice_bounds-fill-end
+slice_bounds-fill-end g c =
+    let a = c.args in
+    let b = a.bytes.now in
+    let inside = store-inside g.row.W b a.kept a.n 0 c.requires (bytes-held b c.slice_known-1.given) in
+    omega (arith, c.max.ensures, c.put.auto.bytes, inside (a.kept + 1) (omega (arith, c.requires.inside)), inside a.n c.requires.room)
 
 pub returns : goal.returns
-returns c =
-    let held : Bytes c.args.bytes.now = bytes-held c.args.bytes.now c.slice_known-1.given in
-    let k = c in
-    let s = k in
-    let a = s.args in
-    stored a.width a.bytes.now a.kept a.n a.value s.requires held _ _ c.put.ensures c.clear_items.ensures
+returns g c =
+    let a = c.args in
+    let b = a.bytes.now in
+    stored g.row.W b a.kept a.n (g.T.Item.spelt a.value) c.requires (bytes-held b c.slice_known-1.given) c.put.new.bytes c.fill.new.self _ _ _
+    c.put.ensures refl c.max.ensures (c.fill.ensures.after (λ y e. e) ∙ ap (λ (m : ℕ). replicate m 0) (simp (length-take, length-drop) (omega (arith, c.put.auto.bytes, store-end g.row.W b a.kept a.n 0 c.requires (bytes-held b c.slice_known-1.given) c.max.result c.max.ensures)))) refl

@@ -1,11 +1,9 @@
--- `layout::read_items` meets its contract: after i turns the first i items are read, and the place is `width` times i.
-use Prim.Native.Nat.{◌-◌}
-use lib.ListN.{length}
-use Rattle.layout.proofs.ItemLists.{ReadTo}
+-- `layout::read_items` meets its contract: after i turns the first i items are read.
+use mathlib.Core.Path.{◌≡◌}
+use mathlib.Core.List.{map}
+use lib.ListN.{take}
+use Rattle.layout.specs.Items.{items_to}
 use Rattle.layout.proofs.read_items.Given as goal
 
 abbrev pub invariant-loop-i : goal.invariant-loop-i
-invariant-loop-i l = ReadTo l.width l.bytes l.initial.items l.items l.i l.at
-
-abbrev pub decreases-loop-i : goal.decreases-loop-i
-decreases-loop-i l = length l.initial.items - l.i
+invariant-loop-i g l = take l.i l.items ≡ map g.T.Item.stands_for (items_to g.row.W l.bytes l.i)

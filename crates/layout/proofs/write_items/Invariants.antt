@@ -1,11 +1,8 @@
--- `layout::write_items` meets its contract: after i turns the first i items are written, and the place is `width` times i.
-use Prim.Native.Nat.{◌-◌}
-use lib.ListN.{length}
-use Rattle.layout.proofs.ItemLists.{WrittenTo}
+-- `layout::write_items` meets its contract: after i turns the first i items are written.
+use mathlib.Core.Path.{◌≡◌}
+use mathlib.Core.List.{map}
+use Rattle.layout.proofs.ItemLists.{written}
 use Rattle.layout.proofs.write_items.Given as goal
 
 abbrev pub invariant-loop-i : goal.invariant-loop-i
-invariant-loop-i l = WrittenTo l.width l.items l.initial.bytes l.bytes l.i l.at
-
-abbrev pub decreases-loop-i : goal.decreases-loop-i
-decreases-loop-i l = length l.items - l.i
+invariant-loop-i g l = l.bytes ≡ written g.row.W (map g.T.Item.spelt l.items) l.i l.initial.bytes

@@ -1,12 +1,22 @@
--- `path::has_room` meets its contract: each answer goes by the tests that led to it.
-use borrow.Author.Tests.{le-leb, lt-leb}
+-- `path::has_room` meets its contract: each of the lengths has room, or one has none.
+use mathlib.Core.Path.{◌≡◌, refl, ap, ◌∙◌}
+use mathlib.Core.Bool.{Bool, ◌&&◌}
+use mathlib.Core.List.{List, [], ◌∷◌}
+use Prim.Native.Nat.{ℕ}
+use lib.Dec.{leb}
+use Rattle.std.proofs.Common.{rules, tests}
+use Rattle.std.proofs.lemmas.Iterator.{YieldsList-from_slice}
+use Rattle.std.proofs.lemmas.Iterator.Search.{all_from_yields_List}
+use Rattle.std.specs.List.{list_all}
+use Rattle.path.specs.Refusal.{room_for}
 use Rattle.path.proofs.has_room.Goals as goal
 
-pub returns-then-first-n : goal.returns-then-first-n
-returns-then-first-n c = simp (lt-leb _ _ c.if-first-n.true)
-
-pub returns-then-second-n : goal.returns-then-second-n
-returns-then-second-n c = simp (le-leb _ _ c.if-first-n.false, lt-leb _ _ c.if-second-n.true)
+room_all : (n : ℕ) (rooms : List ℕ) → list_all (λ (room : ℕ). leb n room) rooms ≡ room_for n rooms
+room_all n [] = refl
+room_all n (room ∷ rooms) = ap (λ (b : Bool). leb n room && b) (room_all n rooms)
 
 pub returns : goal.returns
-returns c = simp (le-leb _ _ c.if-first-n.false, le-leb _ _ c.if-second-n.false)
+returns c =
+    let a = c.args in
+    all_from_yields_List (λ room. leb a.n room) _ _ c.all.result c.all.ensures.ran (YieldsList-from_slice a.rooms.now cc) (λ x b q k. search (rules, tests))
+    ∙ room_all a.n a.rooms.now

@@ -1,59 +1,44 @@
--- `path::ordered` meets its contract. The loop's invariant: the check has come to the entry at hand.
-use mathlib.Core.Path.{sym, ◌∙◌}
+-- `path::ordered` meets its contract. The loop's invariant: the check has come to the entry before the place at hand.
+use mathlib.Core.Path.{ap, sym, ◌∙◌}
 use Prim.Native.Nat.{◌-◌}
 use native.Mathlib.Omega.{arith}
-use Rattle.path.specs.Model.{lists}
+use Rattle.path.specs.Refusal.{in_range, follows}
 use Rattle.path.proofs.Turns.{ordered-none, range-fails, reached-last, neighbours-fail, reached-before, reached-first}
 use Rattle.path.proofs.ordered.Goals as goal
 
 pub returns-then-entries-eq0 : goal.returns-then-entries-eq0
-returns-then-entries-eq0 c =
-    let a = c.args in
-    let t = lists a.sizes.now a.losses.now a.weights.now in
-    sym (ordered-none t c.if-entries-eq0.true)
-
-pub in_range-requires : goal.in_range-requires
-in_range-requires c = tt
+returns-then-entries-eq0 g c = sym (ordered-none (g.M.Models.held c.args.models.now) c.if-entries-eq0.true)
 
 pub returns-then-not-in_range : goal.returns-then-not-in_range
-returns-then-not-in_range c =
-    let a = c.args in
-    let t = lists a.sizes.now a.losses.now a.weights.now in
-    let n = a.entries in
-    sym (range-fails t n (n - 1) (omega arith) (sym c.in_range.ensures ∙ c.if-not-in_range.true))
+returns-then-not-in_range g c =
+    let n = c.args.entries in
+    sym (range-fails (g.M.Models.held c.args.models.now) n (n - 1) (omega arith)
+    (ap in_range (sym c.entry_at.ensures) ∙ sym c.in_range.ensures ∙ c.if-not-in_range.true))
 
 pub loop-at-init : goal.loop-at-init
-loop-at-init c =
-    let a = c.args in
-    let t = lists a.sizes.now a.losses.now a.weights.now in
-    let n = a.entries in
-    reached-last t n (n - 1) (omega arith) (sym c.in_range.ensures ∙ c.if-not-in_range.false)
-
-pub follows-requires : goal.follows-requires
-follows-requires c = tt
+loop-at-init g c =
+    let n = c.args.entries in
+    reached-last (g.M.Models.held c.args.models.now) n (n - 1) (omega arith)
+    (ap in_range (sym c.entry_at.ensures) ∙ sym c.in_range.ensures ∙ c.if-not-in_range.false)
 
 pub returns-then-not-follows : goal.returns-then-not-follows
-returns-then-not-follows c =
-    let l = c in
-    let a = c.args in
-    let t = lists a.sizes.now a.losses.now a.weights.now in
-    let at = l.loop-at.at in
-    sym (neighbours-fail t a.entries at l.loop-at.invariant (at - 1) (omega arith) (sym c.follows.ensures ∙ c.if-not-follows.true))
+returns-then-not-follows g c =
+    let at = c.loop-at.at - 1 in
+    let d = c.entry_at-in-loop-at.ensures in
+    let e = c.entry_at-in-loop-at-2.ensures in
+    sym (neighbours-fail (g.M.Models.held c.args.models.now) c.args.entries at c.loop-at.invariant (at - 1) (omega arith)
+    ((λ i. follows (sym d i) (sym e i)) ∙ sym c.follows.ensures ∙ c.if-not-follows.true))
 
 pub loop-at-preserved : goal.loop-at-preserved
-loop-at-preserved c =
-    let l = c in
-    let a = c.args in
-    let t = lists a.sizes.now a.losses.now a.weights.now in
-    let at = l.loop-at.at in
-    reached-before t a.entries at l.loop-at.invariant (at - 1) (omega arith) (sym c.follows.ensures ∙ c.if-not-follows.false)
-
-pub in_range-requires-2 : goal.in_range-requires-2
-in_range-requires-2 c = tt
+loop-at-preserved g c =
+    let at = c.loop-at.at - 1 in
+    let d = c.entry_at-in-loop-at.ensures in
+    let e = c.entry_at-in-loop-at-2.ensures in
+    reached-before (g.M.Models.held c.args.models.now) c.args.entries at c.loop-at.invariant (at - 1) (omega arith)
+    ((λ i. follows (sym d i) (sym e i)) ∙ sym c.follows.ensures ∙ c.if-not-follows.false)
 
 pub returns : goal.returns
-returns c =
-    let l = c in
-    let a = c.args in
-    let t = lists a.sizes.now a.losses.now a.weights.now in
-    c.in_range-2.ensures ∙ sym (reached-first t a.entries l.loop-at.at l.loop-at.invariant (omega arith))
+returns g c =
+    c.in_range-2.ensures
+    ∙ ap in_range c.entry_at-2.ensures
+    ∙ sym (reached-first (g.M.Models.held c.args.models.now) c.args.entries (c.loop-at.at - 1) c.loop-at.invariant (omega arith))

@@ -13,7 +13,7 @@ returns-then-end-n c =
     let s = set a.buffer.now a.kept a.value in
     let e = a.kept + 1 in
     let n : length (mid_of e (a.n - e) s) ≡ a.n - e = mid_len e a.n s (simp length-set (omega arith)) in
-    ap (put_mid e (a.n - e) s) (c.clear.ensures ∙ ap (λ (m : ℕ). replicate m 0) n)
+    ap (put_mid e (a.n - e) s) (c.fill.ensures.after (λ y e. e) ∙ ap (λ (m : ℕ). replicate m 0) n)
     ∙ store-clears a.buffer.now a.kept a.n a.value (omega arith) (omega arith) (omega arith)
 
 pub returns-else-end-n : goal.returns-else-end-n

@@ -1,20 +1,18 @@
--- `path::valid_path` meets its contract: the lists have room for the path or not, and then its order decides.
+-- `path::valid_path` meets its contract: there is room for the path or not, and then its order decides.
 use mathlib.Core.Path.{sym, ◌∙◌}
 use Rattle.path.specs.Refusal.{valid_path}
-use Rattle.path.specs.Model.{lists}
 use Rattle.path.proofs.Order.{room-places}
 use Rattle.path.proofs.valid_path.Goals as goal
 
-pub returns-then-not-path_has_room : goal.returns-then-not-path_has_room
-unfolding valid_path
-returns-then-not-path_has_room c = rw (sym c.path_has_room.ensures ∙ c.if-not-path_has_room.true)
-
 pub ordered-requires : goal.ordered-requires
-ordered-requires c =
+ordered-requires g c =
     let a = c.args in
-    let t = lists a.sizes.now a.losses.now a.weights.now in
-    (room-places t a.entries (sym c.path_has_room.ensures ∙ c.if-not-path_has_room.false)).1
+    (room-places (g.M.Models.held a.models.now) a.entries (sym c.path_has_room.ensures ∙ c.if-path_has_room.true)).1
 
-pub returns : goal.returns
+pub returns-then-path_has_room : goal.returns-then-path_has_room
 unfolding valid_path
-returns c = rw (sym c.path_has_room.ensures ∙ c.if-not-path_has_room.false) c.ordered.ensures
+returns-then-path_has_room g c = rw (sym c.path_has_room.ensures ∙ c.if-path_has_room.true) c.ordered.ensures
+
+pub returns-else-path_has_room : goal.returns-else-path_has_room
+unfolding valid_path
+returns-else-path_has_room g c = rw (sym c.path_has_room.ensures ∙ c.if-path_has_room.false) c.if-path_has_room.false

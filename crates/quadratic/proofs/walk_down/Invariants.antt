@@ -5,7 +5,7 @@ use Rattle.quadratic.proofs.Descents.{Descended}
 use Rattle.quadratic.proofs.walk_down.Given as goal
 
 abbrev pub invariant-loop-at : goal.invariant-loop-at
-invariant-loop-at l = Descended (lists l.initial.path_sizes l.initial.path_losses l.initial.path_weights) (lists l.path_sizes l.path_losses l.path_weights) l.n l.at l.first
+invariant-loop-at l = Descended (lists l.initial.sizes l.initial.losses l.initial.weights) (lists l.sizes l.losses l.weights) l.n l.at l.first
 
 abbrev pub decreases-loop-at : goal.decreases-loop-at
 decreases-loop-at l = l.at

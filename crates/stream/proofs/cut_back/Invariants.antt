@@ -5,7 +5,4 @@ use Rattle.stream.proofs.Cuts.{CutTo}
 use Rattle.stream.proofs.cut_back.Given as goal
 
 abbrev pub invariant-loop-left : goal.invariant-loop-left
-invariant-loop-left l = CutTo l.samples l.table l.segments (segment_buffers l.initial.starts l.initial.levels) (segment_buffers l.starts l.levels) l.left l.to l.loss
-
-abbrev pub decreases-loop-left : goal.decreases-loop-left
-decreases-loop-left l = l.left
+invariant-loop-left l = CutTo l.samples l.table.bytes.now l.segments (segment_buffers l.initial.starts l.initial.levels) (segment_buffers l.starts l.levels) l.left l.to l.loss

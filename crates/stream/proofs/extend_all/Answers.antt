@@ -7,7 +7,6 @@ use Rattle.stream.specs.Extend.{stream_buffers}
 use Rattle.stream.specs.Inner.{ColumnFrom}
 use Rattle.stream.proofs.StaysDue.{next_low, next-placed}
 use Rattle.stream.proofs.Steps.{extended-by}
-use Rattle.std.proofs.Common.{rules}
 use Rattle.stream.proofs.extend_all.Goals as goal
 
 pub fill_column-requires : goal.fill_column-requires
@@ -19,7 +18,7 @@ pub column_path-requires : goal.column_path-requires
 column_path-requires c =
     let p = c.requires in
     let a = c.args in
-    let k = c.smaller-count in
+    let k = c.min-count in
     let f = c.fill_column.ensures in
     let from : ColumnFrom a.samples.now a.table.now = record { some = p.some; short = p.short; long = p.long; low = p.low } in (
       record {
@@ -27,7 +26,6 @@ column_path-requires c =
         within = p.short;
         some = omega (arith, k.ensures, p.some, p.one);
         few = omega (arith, k.ensures, p.few);
-        long = search rules;
         first_low = rw (f.filled, next-placed a.samples.now a.table.now f.fit from 0 (omega arith)) (next_low a.samples.now a.table.now f.fit from 0 (omega arith) p.some);
       },
       subst (HasPlaces (lists a.path_sizes.now a.path_losses.now a.path_weights.now)) (sym k.ensures) p.fits,
@@ -36,6 +34,6 @@ column_path-requires c =
 pub returns : goal.returns
 returns c =
     let a = c.args in
-    let k = c.smaller-count in
+    let k = c.min-count in
     let f = c.fill_column.ensures in
     record { outcome = extended-by a.samples.now a.max_segments k.result (stream_buffers a.table.now (lists a.path_sizes.now a.path_losses.now a.path_weights.now)) _ (lists _ _ _) _ f.filled k.ensures c.column_path.ensures; fit = f.fit }

@@ -10,7 +10,7 @@ loop-k-init c = let a = c.args in filled-start a.samples.now a.owns.now a.table.
 pub next_value-v-requires : goal.next_value-v-requires
 next_value-v-requires c =
     let a = c.args in
-    (filled-asks a.samples.now a.owns.now a.table.now c.requires c.loop-k.table c.loop-k.k c.loop-k.invariant, c.loop-k-test.true)
+    (filled-asks a.samples.now a.owns.now a.table.now c.requires c.loop-k.table c.loop-k.k c.loop-k.invariant, omega arith)
 
 pub overflow_sub-n : goal.overflow_sub-n
 overflow_sub-n c = omega (arith, c.requires.some)
@@ -28,7 +28,7 @@ pub loop-k-preserved : goal.loop-k-preserved
 loop-k-preserved c =
     let a = c.args in
     let l = c.loop-k in
-    rw (c.put.ensures, add-one) (filled-step a.samples.now a.owns.now a.table.now c.requires l.table l.k l.invariant _ c.loop-k-test.true c.next_value-v.ensures)
+    rw (c.put.ensures, add-one) (filled-step a.samples.now a.owns.now a.table.now c.requires l.table l.k l.invariant _ (omega arith) c.next_value-v.ensures)
 
 pub returns : goal.returns
 returns c =

@@ -1,12 +1,9 @@
 -- `stream::read_column` meets its contract. The invariant: the first k losses are read.
 use mathlib.Core.Path.{◌≡◌}
-use Prim.Native.Nat.{ℕ, ◌-◌, ◌≤◌, ◌<◌}
-use lib.ListN.{length, get_or}
+use Prim.Native.Nat.{ℕ, ◌<◌}
+use lib.ListN.{get_or}
 use Rattle.stream.specs.Table.{value}
 use Rattle.stream.proofs.read_column.Given as goal
 
 abbrev pub invariant-loop-k : goal.invariant-loop-k
-invariant-loop-k l = (l.k ≤ l.count) × (length l.losses ≡ length l.initial.losses) × ((m : ℕ) → m < l.k → get_or l.losses m 0 ≡ value l.table m l.j)
-
-abbrev pub decreases-loop-k : goal.decreases-loop-k
-decreases-loop-k l = l.count - l.k
+invariant-loop-k l = (m : ℕ) → m < l.k → get_or l.losses m 0 ≡ value l.table.bytes.now m l.j

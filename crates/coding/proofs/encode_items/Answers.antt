@@ -1,9 +1,0 @@
--- `coding::encode_items` meets its contract: nothing is written, or the list is.
-use Rattle.coding.proofs.Encoding.{not-encoded, is-encoded}
-use Rattle.coding.proofs.encode_items.Goals as goal
-
-pub returns-then-refusal-ne0 : goal.returns-then-refusal-ne0
-returns-then-refusal-ne0 c = not-encoded _ _ _ c.if-refusal-ne0.true
-
-pub returns : goal.returns
-returns c = is-encoded _ _ _ _ c.if-refusal-ne0.false c.write_items.ensures
