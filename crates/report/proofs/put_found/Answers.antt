@@ -1,0 +1,1 @@
+use Rattle.report.proofs.put_found.Goals as goal
