@@ -1,6 +1,6 @@
 -- `report::put_line` segments the signal at the penalty and puts the front of the line, its segments and its end. Each has its room,
 -- because the front has at most 65 bytes and a segment at most 25.
-use Rattle.std.proofs.Common.{◌≡◌, sym, ap, true, List, ◌++◌, ℕ, ◌≤◌, ◌<◌, ◌^◌, ℤ, length, take, arith}
+use Rattle.std.proofs.Common.{◌≡◌, sym, true, List, ◌++◌, ℕ, ◌≤◌, ◌<◌, ◌^◌, ℤ, length, take, arith}
 use Rattle.select.specs.Penalty.{valid_penalty}
 use Rattle.select.specs.declared.Selected.{Selected}
 use Rattle.signal.specs.SignalPath.{PathBuffers}

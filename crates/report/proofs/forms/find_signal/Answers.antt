@@ -1,5 +1,5 @@
 -- `report::forms::find_signal` takes the next line, reads it as a record form and judges it; whatever else is found is refused.
-use Rattle.std.proofs.Common.{◌≡◌, refl, sym, ap, ◌∙◌, ◌≤◌, Some, None, length, arith}
+use Rattle.std.proofs.Common.{◌≡◌, ap, ◌∙◌, Some, None, arith}
 use Rattle.path.specs.Numbers.{number_of}
 use Rattle.path.specs.declared.refusal.Refusal.TheVariants.{Layout}
 use Rattle.report.proofs.Turns.{signal-none, signal-stops, signal-refused, signal-found}

@@ -1,5 +1,5 @@
 -- `report::forms::find_weights` looks at what comes next, and reads a line that opens so as a weights form.
-use Rattle.std.proofs.Common.{◌≡◌, ap, ◌∙◌, Some, None, arith}
+use Rattle.std.proofs.Common.{◌≡◌, Some, None, arith}
 use Rattle.path.specs.declared.refusal.Refusal.TheVariants.{Layout}
 use Rattle.std.proofs.lemmas.Result.{err_from_is_err_and}
 use Rattle.report.proofs.Weighing.{found_none, found-refused, found-line, found-other}

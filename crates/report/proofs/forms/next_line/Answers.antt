@@ -1,5 +1,5 @@
 -- `report::forms::next_line` passes over notes. The loop's invariant: what is printed for the input is what is printed for what is left.
-use Rattle.std.proofs.Common.{◌≡◌, ◌<◌, sym, ◌∙◌, length, arith}
+use Rattle.std.proofs.Common.{◌<◌, sym, ◌∙◌, length, arith}
 use borrow.Author.Tests.{eqb-true, eqb-false}
 use Rattle.report.proofs.Inputs.{line_on, line-off, line-end, note-on}
 use Rattle.report.proofs.forms.next_line.Goals as goal

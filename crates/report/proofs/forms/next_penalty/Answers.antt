@@ -1,5 +1,5 @@
 -- `report::forms::next_penalty` takes the next line and reads it as a price form.
-use Rattle.std.proofs.Common.{◌≡◌, ap, ◌∙◌, ℕ, Some, None, arith}
+use Rattle.std.proofs.Common.{◌≡◌, ◌∙◌, Some, None, arith}
 use Rattle.path.specs.declared.refusal.Refusal.TheVariants.{Layout}
 use Rattle.std.proofs.lemmas.Result.{err_from_is_err_and}
 use Rattle.report.specs.Report.{answering}

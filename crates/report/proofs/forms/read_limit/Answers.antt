@@ -1,9 +1,8 @@
 -- `report::forms::read_limit` reads the word after the first as a figure, if no other follows.
-use Rattle.std.proofs.Common.{◌≡◌, refl, sym, ◌∙◌, Some, None, List, ◌∷◌, []}
+use Rattle.std.proofs.Common.{refl, ◌∙◌, Some, None}
 use Rattle.text.specs.Text.{bytes}
 use Rattle.text.specs.Inner.{words_left}
 use Rattle.text.proofs.Readings.{figure-known, figure-none}
-use Rattle.report.specs.Forms.{form_of}
 use Rattle.report.proofs.Layouts.{limit-after, limit-not, limit-none, limit-bad, limit-many, limit-one}
 use Rattle.report.proofs.forms.read_limit.Goals as goal
 

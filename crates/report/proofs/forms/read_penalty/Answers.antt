@@ -1,6 +1,6 @@
 -- `report::forms::read_penalty` reads the two words after the first as figures, if no other follows. A line that is a penalty is the text of
 -- it, which has at least 11 bytes.
-use Rattle.std.proofs.Common.{◌≡◌, refl, sym, ap, ◌∙◌, ℕ, ◌+◌, ◌≤◌, Some, None, List, ◌∷◌, [], ◌++◌, length, length-append, arith}
+use Rattle.std.proofs.Common.{◌≡◌, refl, ap, ◌∙◌, ℕ, ◌+◌, ◌≤◌, Some, None, List, length, length-append, arith}
 use Rattle.text.specs.Text.{bytes, digits, two_text}
 use Rattle.text.specs.Inner.{words_left}
 use Rattle.text.proofs.Inverse.{figure-digits}

@@ -1,6 +1,6 @@
 -- `report::forms::read_signal` reads word after word. The loop's invariant: the form is a signal of the samples in the buffer and of the
 -- words left, if these are samples.
-use Rattle.std.proofs.Common.{◌≡◌, refl, sym, ◌∙◌, ◌≤◌, Some, None, length, arith}
+use Rattle.std.proofs.Common.{refl, Some, None, arith}
 use mir.Facts.{to_z-of_z}
 use Rattle.text.specs.Text.{bytes}
 use Rattle.text.specs.Inner.{words_left}

@@ -1,6 +1,6 @@
 -- `report::forms::read_weights` reads word after word. The loop's invariant: the form is weights, those in the buffer and those of the
 -- words left, if these are figures.
-use Rattle.std.proofs.Common.{◌≡◌, refl, sym, ◌∙◌, Some, None, length, arith}
+use Rattle.std.proofs.Common.{refl, Some, None, arith}
 use Rattle.text.specs.Text.{bytes}
 use Rattle.text.specs.Inner.{words_left}
 use Rattle.text.proofs.Readings.{figure-known, figure-none}

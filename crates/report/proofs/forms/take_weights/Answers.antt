@@ -1,5 +1,5 @@
 -- `report::forms::take_weights` judges the weights, and looks at what comes next.
-use Rattle.std.proofs.Common.{◌≡◌, ap, ◌∙◌, arith}
+use Rattle.std.proofs.Common.{ap, ◌∙◌}
 use Rattle.path.specs.Numbers.{number_of}
 use Rattle.std.proofs.lemmas.Result.{err_from_is_err_and}
 use Rattle.report.proofs.Weighing.{taken-refused, taken, taken-off, taken-line}

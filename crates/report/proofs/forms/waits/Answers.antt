@@ -1,8 +1,8 @@
 -- `report::forms::waits` tests for the two words in turn.
-use Rattle.std.proofs.Common.{◌≡◌, refl, sym, ◌∙◌, ◌||◌, true, false, Bool, length, take}
+use Rattle.std.proofs.Common.{refl, sym, ◌∙◌, take}
 use Rattle.text.specs.Text.{bytes}
 use Rattle.text.proofs.Searches.{pointwise_flip}
-use Rattle.report.specs.Forms.{opens_with, waits}
+use Rattle.report.specs.Forms.{opens_with}
 use Rattle.report.proofs.forms.waits.Goals as goal
 
 pub returns-then-starts_with : goal.returns-then-starts_with

@@ -1,10 +1,8 @@
 -- `report::forms::words_after` looks for the brackets, and then at the first word.
-use Rattle.std.proofs.Common.{◌≡◌, sym, refl, ◌∙◌, ap, ◌∷◌, [], Some, None, List, ℕ, false, true}
+use Rattle.std.proofs.Common.{sym, ◌∙◌}
 use borrow.Author.Tests.{not-true, not-false}
-use Rattle.std.specs.Option.{option_map}
-use Rattle.text.specs.Inner.{words_left}
-use Rattle.report.specs.Inner.{words_in, after_word}
-use Rattle.report.proofs.Layouts.{no-opening, no-closing, both-brackets, between-brackets, outside-none, first-is, first-other, first-none}
+use Rattle.report.specs.Inner.{words_in}
+use Rattle.report.proofs.Layouts.{no-opening, no-closing, between-brackets, outside-none, first-is, first-other, first-none}
 use Rattle.report.proofs.forms.words_after.Goals as goal
 
 pub returns-in_err-strip_prefix : goal.returns-in_err-strip_prefix

@@ -1,1 +1,0 @@
-use Rattle.report.proofs.put_found.Goals as goal
