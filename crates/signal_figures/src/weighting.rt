@@ -117,7 +117,10 @@ pub fn check(weights: &[u64], limit: usize) -> Result<(), Refusal> {
     if weights.is_empty() {
         return Ok(());
     }
-    let rising = weights.iter().zip(weights.iter().skip(1)).all(|(a, b)| a < b);
+    let rising = weights
+        .iter()
+        .zip(weights.iter().skip(1))
+        .all(|(a, b)| a < b);
     if weights.len() == limit && rising {
         Ok(())
     } else {
