@@ -4,21 +4,24 @@
 # - tallies: which functions of all crates call those that have a tally in their hands, and how often. Then, of the crates of the
 #   library, what stands outside functions and names a tally, and a digest of every function that names a tally, a type that holds one,
 #   or a function that takes or answers one.
-# - older: which functions each function of the crate `quadratic` calls, and these in turn, but for the two branches that build by our
-#   method. Then digests of the older method itself.
+# - older: which functions each function of the crate `quadratic` calls, and these in turn, with the types that they are told. Then
+#   what stands outside its functions, and digests of the older method itself.
+# A function of an impl or of a trait goes by its type or its trait: `path::PathResult::from`, `build::Method::fill`. Where a type parameter
+# stands before a name, as in `M::fill`, it is the function of the trait that bounds it, and which code runs is told by the type: so both
+# lists begin with the impls of the library's traits.
 use strict;
 use warnings;
 use Digest::SHA qw(sha256_hex);
 
 my ($what, $tree, $list) = @ARGV;
-my (%functions, %outside, %uses, %modules, %types, @odd, @sections);
+my (%functions, %outside, %uses, %modules, %types, %impls, @odd, @sections);
 
 # Forms that could hide a name or a text from this reading: none may stand anywhere, between functions, within one, or in a literal. The
 # macros that are left are std's, and hide nothing that they are given.
-my $plain = qr{unsafe\(no_mangle\)|repr\(C\)|derive\((?:Clone|Copy|Drop|, )+\)|cycle\(\w+\)|inline\(never\)};
+my $plain = qr{unsafe\(no_mangle\)|repr\(C\)|derive\((?:Clone|Copy|Drop|Debug|PartialEq|Eq|PartialOrd|Ord|Hash|Default|, )+\)|cycle\(\w+\)|inline\(never\)|inline};
 my $macros = qr/(?:e?print(?:ln)?|write(?:ln)?|format|vec|assert(?:_eq|_ne)?|prove|matches)/;
-my $hides = qr{\#!?\[(?!$plain\])[^\]]*\]|/\*|\br\#|\bmacro_rules\b|\btrait\b|\bfn\s*\(|(?<!\w)::|::(?!\w)|(?<!\w)(?!$macros!)\w+!\s*[(\[\{]};
-my $hides_outside = qr/\bpub use\b[^;]*|\buse\b[^;]*(?:\bas\b|[{*])[^;]*|\bmod\s+\w+\s*\{|\bfn\b.{0,40}|[^\x00-\x7f]+/;
+my $hides = qr{\#!?\[(?!$plain\])[^\]]*\]|/\*|\br\#|\bmacro_rules\b|\bfn\s*\(|(?<![\w>])::|::(?![\w<])|(?<!\w)(?!$macros!)\w+!\s*[(\[\{]};
+my $hides_outside = qr/\bpub use [^;]*\b[a-z_]\w*\s*;|\buse\b[^;]*(?:\bas\b|[{*])[^;]*|\bmod\s+\w+\s*\{|\bfn\b.{0,40}|[^\x00-\x7f]+/;
 my $hides_within = qr/\b(?:fn|use|mod|impl|type|const|static)\b/;
 my $hides_in_literals = qr/\bb?r#*"/;
 
@@ -81,6 +84,44 @@ sub brought {
     return map { brought("$start$_") } @items;
 }
 
+# The ghost members of traits, impls and types, with their terms, left out.
+sub without_ghosts {
+    my ($text) = @_;
+    while ($text =~ /\bghost\s+\w+\s*[:=]\s*(?=\{)/g) {
+        my $start = $-[0];
+        my $end = pos($text) + length bracketed($text, pos $text);
+        pos($text) = $end;
+        if ($text =~ /\G\s*=\s*(?=\{)/gc) { $end = pos($text) + length bracketed($text, pos $text) }
+        pos($text) = $end;
+        $end = pos($text) if $text =~ /\G\s*[;,]/gc;
+        substr($text, $start, $end - $start) = '';
+        pos($text) = $start;
+    }
+    return $text;
+}
+
+# Where the impls and traits of a text stand, each with what its functions go by: the type of an impl, or the trait.
+sub blocks {
+    my ($module, $text) = @_;
+    my @blocks;
+    while ($text =~ /^(?:pub\s+)?(impl|trait)\b([^{;]*)(?=\{)/mg) {
+        my ($kind, $head, $start) = ($1, joined($2), pos $text);
+        my $end = $start + length bracketed($text, $start);
+        $head =~ s/ where .*//;
+        my ($trait, $type) = ('', $head);
+        if ($kind eq 'impl') {
+            1 while $head =~ s/<[^<>]*>//;
+            ($trait, $type) = $head =~ /^\s*(?:(.*\S) for )?(\S+)\s*$/ or push @odd, "$module has an impl: $head";
+            push @{ $impls{$module} }, { trait => $trait, type => $type } if defined $trait && $trait ne '';
+        } else {
+            ($type) = $head =~ /^\s*(\w+)/;
+        }
+        push @blocks, { start => $start, end => $end, type => $type };
+        pos($text) = $start + 1;
+    }
+    return @blocks;
+}
+
 # Reads a file: its functions, uses, modules and types, and what stands outside its functions. Remarks, contracts, what is brought for
 # contracts and what is said of tactics are left out, and so are brackets in literals. A use of several paths stands as so many uses.
 # Forms that could hide something are kept apart.
@@ -91,21 +132,30 @@ sub read_file {
     push @odd, "$module has: $1" while $text =~ /($hides_in_literals)/g;
     $text =~ s{("(?:\\.|[^"\\])*"|'(?:\\.|[^'\\])')|//[^\n]*}{defined $1 ? $1 =~ tr/()[]{}/....../r : ''}gse;
     $text =~ s/\bghost use [^;]*;//g;
+    $text = without_ghosts($text);
     $text =~ s/\#!?\[tactic\([\w, ():]*\)\]//g;
     $text =~ s{\b((?:pub\s+)?use\s+)([^;]*);}{my $use = $1; join ' ', map { "$use$_;" } brought($2 =~ s/\s+(?=[{},])|(?<=[{},])\s+//gr)}ge;
+    my @blocks = blocks($module, $text);
     my ($rest, $from) = ('', 0);
-    while ($text =~ /(?:\bpub\s+)?(?:\bextern\s+"C"\s+)?\bfn\s+(\w+)\s*(?:<[^>()]*>\s*)?(?=\()/g) {
+    while ($text =~ /(?:\bpub\s+)?(?:\bextern\s+"C"\s+)?\bfn\s+(\w+)\s*(?:<(?:[^<>()]|->|\([^()]*\)|<[^<>]*>)*>\s*)?(?=\()/g) {
         my ($name, $start) = ($1, $-[0]);
         pos($text) += length bracketed($text, pos $text);
-        $text =~ /\G\s*->[^{]*?(?=\s*(?:\{|\b(?:requires|ensures|ghost)\b))/gc;
+        $text =~ /\G\s*->[^{;]*?(?=\s*(?:[{;]|\b(?:requires|ensures|ghost|where)\b))/gc;
+        $text =~ /\G\s*where\b[^{;]*?(?=\s*(?:[{;]|\b(?:requires|ensures|ghost)\b))/gc;
         my $head = joined(substr $text, $start, pos($text) - $start);
-        pos($text) += length bracketed($text, pos $text) while $text =~ /\G\s*(?:requires|ensures|ghost)\b[^{]*/gc;
-        die "$file: $name has no body\n" unless $text =~ /\G\s*(?=\{)/gc;
-        my $body = bracketed($text, pos $text);
+        pos($text) += length bracketed($text, pos $text) while $text =~ /\G\s*(?:requires|ensures|ghost)\b[^{;]*(?=\{)/gc;
+        my ($block) = grep { $_->{start} < $start && $start < $_->{end} } @blocks;
+        my $body = '{}';
+        # A function that a trait only declares has no body.
+        unless ($text =~ /\G\s*;/gc) {
+            die "$file: $name has no body\n" unless $text =~ /\G\s*(?=\{)/gc;
+            $body = bracketed($text, pos $text);
+            pos($text) += length $body;
+        }
         $rest .= substr $text, $from, $start - $from;
-        $from = pos($text) += length $body;
-        # A method goes by its file and its own name, with a mark where that is taken.
-        my $key = "${module}::$name";
+        $from = pos($text);
+        # A function of an impl or a trait goes by its type too, with a mark where its name is taken.
+        my $key = join '::', $module, $block ? $block->{type} : (), $name;
         $key .= "'" while $functions{$key};
         $functions{$key} = { crate => $crate, module => $module, head => $head, body => joined(substr $body, 1, -1) };
         push @odd, "$key has within: $1" if $body =~ /($hides_within)/;
@@ -114,7 +164,7 @@ sub read_file {
     $rest .= substr $text, $from;
     $outside{$module} = { crate => $crate, text => joined($rest) };
     $modules{$module}{$1} = 1 while $rest =~ /\bmod\s+(\w+)\s*;/g;
-    $types{$module}{$1} = $2 while $rest =~ /\b(?:struct|enum)\s+(\w+)\s*(\{[^}]*\}|\([^)]*\))/g;
+    $types{$module}{$1} = $2 while $rest =~ /\b(?:struct|enum|trait)\s+(\w+)\s*(?:<[^<>]*>)?\s*(?::[^{]*)?(\{[^}]*\}|\([^)]*\)|(?=;))/g;
     $uses{$module}{$2} = "$1$2" while $rest =~ /\buse\s+((?:\w+::)*)(\w+)\s*;/g;
     push @odd, "$module has: $1" while $rest =~ /($hides_outside)/g;
     push @odd, "$module has: $1" while $text =~ /($hides)/g;
@@ -139,22 +189,41 @@ sub meaning {
     return join '::', $module =~ s/::\w+$//r, @others if $first eq 'super';
     my $used = $in_use || !$uses{$module}{$first} ? '' : meaning($module, $uses{$module}{$first}, 1);
     return join '::', $used, @others if $used && !(@others && $functions{$used});
-    return "${module}::$path" if !@others || $modules{$module}{$first} || $types{$module}{$first};
+    return "${module}::$path" if !@others || $modules{$module}{$first} || defined $types{$module}{$first};
     return $path;
 }
 
-# The functions that a text in a module names, called or not, as often as it does. A method other than `len` has a point before it.
+# The functions that a function names, called or not, as often as it does, with the types that they are told where these are asked for. A
+# method other than `len` has a point before it.
 sub named {
-    my ($module, $text) = @_;
+    my ($f, $text, $with_types) = @_;
+    my $module = $f->{module};
+    my %bound = $f->{head} =~ /\b([A-Z]\w*): ([A-Z]\w*)/g;
     my @found;
-    while ($text =~ /(?:(\.)|(?<![\w.]))((?:\w+::)*[A-Za-z_]\w*)(\s*\()?/g) {
-        my ($point, $path, $called) = ($1, $2, $3);
-        next if $path =~ /^(?:if|while|match|return|in|else|let|break|as|mut)$/;
+    while ($text =~ /(?:(\.)|(?<![\w.]))((?:\w+(?:::<(?:[^<>]|<[^<>]*>)*>)?::)*[A-Za-z_]\w*)(::<(?:[^<>]|<[^<>]*>)*>)?(\s*\()?/g) {
+        my ($point, $path, $told, $called) = ($1, $2, $3 // '', $4);
+        $path =~ s/::<(?:[^<>]|<[^<>]*>)*>//g;
+        next if $path =~ /^(?:if|while|match|return|in|else|let|break|as|mut|for|Ok|Err|Some|None)$/;
         if ($point) { push @found, ".$path" if $called && $path ne 'len'; next }
+        $path =~ s/^([A-Z]\w*)(?=::)/$bound{$1}/ if $path =~ /^([A-Z]\w*)::/ && $bound{$1};
         my $key = meaning($module, $path);
-        push @found, $key if $called || $functions{$key} && ($path =~ /::/ || $uses{$module}{$path});
+        push @found, $with_types ? "$key$told" : $key if $called || $functions{$key} && ($path =~ /::/ || $uses{$module}{$path});
     }
     return @found;
+}
+
+# The impls of the library's traits, as a section.
+sub as_impls {
+    my ($library) = @_;
+    my @lines;
+    for my $module (sort grep { $library->{ $outside{$_}{crate} } } keys %impls) {
+        for (@{ $impls{$module} }) {
+            my $trait = meaning($module, $_->{trait});
+            my ($in, $name) = $trait =~ /^(.*)::(\w+)$/;
+            push @lines, "$trait for " . meaning($module, $_->{type}) if defined $in && $types{$in} && defined $types{$in}{$name};
+        }
+    }
+    return ["the library's traits are there for:", sort @lines];
 }
 
 # The crates that some crates go by, themselves included.
@@ -172,6 +241,7 @@ sub as_read { return ['as they were read:', map { "$_ " . substr sha256_hex("$fu
 
 sub list_tallies {
     my $library = crates_below(qw(foldwig demands foldwig_report));
+    push @sections, as_impls($library);
     # The types that hold a tally.
     my %holds = (Tally => 1);
     my ($known, $types) = (0, '');
@@ -189,7 +259,7 @@ sub list_tallies {
     my %listed = (%carries, %has);
     for my $key (keys %functions) {
         my $f = $functions{$key};
-        my @named = named($f->{module}, $f->{body});
+        my @named = named($f, $f->{body});
         for (@named) { $has{$_}{$key}++ if $has{$_} }
         next unless $library->{ $f->{crate} };
         $listed{$key} = 1 if $f->{body} =~ /\b(?:tally|$types)\b/ || grep { $carries{$_} } @named;
@@ -204,26 +274,18 @@ sub list_tallies {
     push @sections, as_read(sort keys %listed);
 }
 
-# The part of a function that runs by the older method: all of it, but of the two functions that are told the method.
-sub older_part {
-    my ($key) = @_;
-    my $body = $functions{$key}{body};
-    $body =~ s/^if !older \{ return build::build_within\([\w, ]*\); \} // if $key eq 'quadratic::build_within';
-    $body =~ s/^(if older \{ return build_quadratic\([\w, ]*\); \}) build::build\([\w, ]*\)$/$1/ if $key eq 'quadratic::build_by';
-    return $body;
-}
-
 sub list_older {
+    push @sections, as_impls(crates_below(qw(foldwig demands foldwig_report)));
     my @next = sort grep { $functions{$_}{crate} eq 'quadratic' } keys %functions;
     my %seen;
     while (defined(my $key = shift @next)) {
         next if $seen{$key}++ || !$functions{$key};
-        my %calls = map { $_ => 1 } named($functions{$key}{module}, older_part($key));
-        my $part = older_part($key) eq $functions{$key}{body} ? '' : ', by the older method,';
-        push @sections, ["$key$part calls:", sort keys %calls];
-        push @next, sort keys %calls;
+        my %calls = map { $_ => 1 } named($functions{$key}, $functions{$key}{body}, 1);
+        push @sections, ["$key calls:", sort keys %calls];
+        push @next, sort map { s/::<.*//r } keys %calls;
     }
-    push @sections, as_read(grep { $functions{$_} } map { "quadratic::$_" } qw(fill_down find_nearest walk_down));
+    push @sections, ['outside its functions quadratic has:', map { s/^ +//r } statements($outside{quadratic}{text})];
+    push @sections, as_read(grep { $functions{$_} } map { "quadratic::$_" } qw(build_by build_quadratic build_within drop_passed find_nearest is_nearer walk_down Quadratic::fill));
 }
 
 # The sections of a list.

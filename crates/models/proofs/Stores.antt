@@ -1,90 +1,50 @@
--- An entry stored in place, with entries of zeros after it.
+-- An entry stored in place, with entries of zeros after it: what is written to a part of the entries is written to the same part of
+-- each of their three lists.
 use mathlib.Core.Path.{◌≡◌, refl, sym, ap, ◌∙◌}
-use mathlib.Core.List.{List, [], ◌∷◌, ◌++◌, map, append-nil, append_assoc}
+use mathlib.Core.List.{List, [], ◌∷◌, ◌++◌, map}
+use Rattle.path.specs.Buffer.{overwritten_to}
 use Prim.Native.Nat.{ℕ, zero, suc, ◌+◌, ◌-◌, ◌≤◌, ◌<◌}
 use native.Mathlib.Omega.{arith}
-use lib.ListN.{length, set, take, drop, replicate, length-map, length-append, length-replicate, take-append-drop}
-use lib.Seq.{length-take-le}
+use lib.ListN.{length, set, take, drop, replicate, length-map}
+use Rattle.std.proofs.lemmas.List.{take-map, drop-map, map-set, map-append}
+use borrow.Rule.Slice.PartMut.{put_mid}
 use Rattle.path.specs.Model.{model, lists}
-use Rattle.path.specs.Buffer.{overwritten, overwritten_to}
-use Rattle.path.proofs.Buffers.{front-grows}
+use Rattle.path.proofs.Buffers.{store-clears, store-alone}
 use Rattle.models.specs.Entries.{lists_in}
-use Rattle.models.specs.Inner.{entry_of, no_entry, size_of, loss_of, weight_of, stored_to}
-use Rattle.models.specs.declared.Entry.{Entry}
-use Rattle.models.proofs.Fronts.{map-set}
-
--- The entries with e at place c and j entries of zeros after it.
-unfoldable pub put : List Entry → ℕ → Entry → ℕ → List Entry
-put ys c e zero = set ys c e
-put ys c e (suc j) = set (put ys c e j) (c + 1 + j) no_entry
-
-pub put-first : (ys : List Entry) (c : ℕ) (e : Entry) → put ys c e (c + 1 - (c + 1)) ≡ set ys c e
-unfolding put
-put-first ys c e = let z : c + 1 - (c + 1) ≡ 0 = omega arith in rw z refl
-
-pub put-more : (ys : List Entry) (c : ℕ) (e : Entry) (i : ℕ) → c + 1 ≤ i → put ys c e (i + 1 - (c + 1)) ≡ set (put ys c e (i - (c + 1))) i no_entry
-unfolding put
-put-more ys c e i h =
-    let s : i + 1 - (c + 1) ≡ suc (i - (c + 1)) = omega arith in
-    let p : c + 1 + (i - (c + 1)) ≡ i = omega arith in
-    rw s (ap (λ (k : ℕ). set (put ys c e (i - (c + 1))) k no_entry) p)
-
--- A value again and again, and once more.
-once_more : (x j : ℕ) → replicate j x ++ (x ∷ []) ≡ replicate (suc j) x
-once_more x zero = refl
-once_more x (suc j) = ap (λ (zs : List ℕ). x ∷ zs) (once_more x j)
+use Rattle.models.specs.Inner.{no_entry, size_of, loss_of, weight_of, stored_to}
+use Rattle.path.specs.declared.storage.Entry.{Entry}
 
 -- A field of the entries, which is 0 where there is none.
-module _ (f : Entry → ℕ) (none : f no_entry ≡ 0) (ys : List Entry) (c : ℕ) (e : Entry) (there : c < length ys) where
-  abbrev zs : List ℕ
-  zs = map f ys
+module _ (f : Entry → ℕ) (none : f no_entry ≡ 0) where
+  zeros : (n : ℕ) → map f (replicate n no_entry) ≡ replicate n 0
+  zeros zero = refl
+  zeros (suc n) = λ i. none i ∷ zeros n i
 
-  abbrev front : ℕ → List ℕ
-  front j = (take c zs ++ (f e ∷ [])) ++ replicate j 0
+  part : (a k : ℕ) (xs zs : List Entry) → map f (put_mid a k xs zs) ≡ put_mid a k (map f xs) (map f zs)
+  part a k xs zs =
+      map-append f (take a xs) (zs ++ drop k (drop a xs))
+      ∙ ap (λ (l : List ℕ). map f (take a xs) ++ l) (map-append f zs (drop k (drop a xs)))
+      ∙ (λ i. sym (take-map f a xs) i ++ (map f zs ++ sym (drop-map f k (drop a xs)) i))
+      ∙ ap (λ (l : List ℕ). take a (map f xs) ++ (map f zs ++ drop k l)) (sym (drop-map f a xs))
 
-  long : length zs ≡ length ys
-  long = length-map ys f
+  module _ (ys : List Entry) (c n : ℕ) (e : Entry) (there : c < length ys) where
+    clears : n ≤ length ys → c + 1 < n
+        → map f (put_mid (c + 1) (n - (c + 1)) (set ys c e) (replicate (n - (c + 1)) no_entry)) ≡ overwritten_to (take c (map f ys) ++ (f e ∷ [])) n (map f ys)
+    clears h p =
+        part (c + 1) (n - (c + 1)) (set ys c e) (replicate (n - (c + 1)) no_entry)
+        ∙ (λ i. put_mid (c + 1) (n - (c + 1)) (map-set f ys c e i) (zeros (n - (c + 1)) i))
+        ∙ store-clears (map f ys) c n (f e) (omega (arith, length-map ys f)) (omega (arith, length-map ys f)) p
 
-  length-first : length (take c zs ++ (f e ∷ [])) ≡ c + 1
-  length-first = length-append (take c zs) (f e ∷ []) ∙ ap (λ (k : ℕ). k + 1) (length-take-le c zs (omega (arith, long)))
+    alone : n ≤ c + 1 → map f (set ys c e) ≡ overwritten_to (take c (map f ys) ++ (f e ∷ [])) n (map f ys)
+    alone p = map-set f ys c e ∙ store-alone (map f ys) c n (f e) (omega (arith, length-map ys f)) p
 
-  length_front : (j : ℕ) → length (front j) ≡ c + 1 + j
-  length_front j = length-append (take c zs ++ (f e ∷ [])) (replicate j 0) ∙ rw (length-first, length-replicate {A = ℕ} j 0) refl
+-- The three lists of the entries, with places to clear and with none.
+module _ (ys : List Entry) (c n : ℕ) (e : Entry) (there : c < length ys) where
+  pub lists-clears : n ≤ length ys → c + 1 < n
+      → lists_in (put_mid (c + 1) (n - (c + 1)) (set ys c e) (replicate (n - (c + 1)) no_entry)) ≡ stored_to c n (model e.size e.loss e.weight) (lists_in ys)
+  lists-clears h p =
+      λ i. lists (clears size_of refl ys c n e there h p i) (clears loss_of refl ys c n e there h p i) (clears weight_of refl ys c n e there h p i)
 
-  -- The first places of the list and the rest of it.
-  same : overwritten (take c zs) zs ≡ zs
-  same = ap (λ (k : ℕ). take c zs ++ drop k zs) (length-take-le c zs (omega (arith, long))) ∙ take-append-drop c zs
-
-  front-more : (j : ℕ) → front j ++ (f no_entry ∷ []) ≡ front (suc j)
-  front-more j =
-      ap (λ (x : ℕ). front j ++ (x ∷ [])) none
-      ∙ append_assoc (take c zs ++ (f e ∷ [])) (replicate j 0) (0 ∷ [])
-      ∙ ap (λ (l : List ℕ). (take c zs ++ (f e ∷ [])) ++ l) (once_more 0 j)
-
-  put_front : (j : ℕ) → c + 1 + j ≤ length ys → map f (put ys c e j) ≡ overwritten (front j) zs
-  unfolding put
-  put_front zero h =
-      map-set f ys c e
-      ∙ ap (λ (l : List ℕ). set l c (f e)) (sym same)
-      ∙ front-grows (take c zs) zs c (f e) (length-take-le c zs (omega (arith, long))) (omega (arith, long))
-      ∙ ap (λ (l : List ℕ). overwritten l zs) (sym (append-nil (take c zs ++ (f e ∷ []))))
-  put_front (suc j) h =
-      map-set f (put ys c e j) (c + 1 + j) no_entry
-      ∙ ap (λ (l : List ℕ). set l (c + 1 + j) (f no_entry)) (put_front j (omega arith))
-      ∙ front-grows (front j) zs (c + 1 + j) (f no_entry) (length_front j) (omega (arith, long))
-      ∙ ap (λ (l : List ℕ). overwritten l zs) (front-more j)
-
-  put-to : (n : ℕ) → n ≤ length ys → map f (put ys c e (n - (c + 1))) ≡ overwritten_to (take c zs ++ (f e ∷ [])) n zs
-  put-to n h =
-      put_front (n - (c + 1)) (omega arith)
-      ∙ ap (λ (k : ℕ). overwritten ((take c zs ++ (f e ∷ [])) ++ replicate (n - k) 0) zs) (sym length-first)
-
--- The three lists of the entries.
-pub lists-put : (ys : List Entry) (c n u v t : ℕ) → c < length ys → n ≤ length ys
-    → lists_in (put ys c (entry_of u v t) (n - (c + 1))) ≡ stored_to c n (model u v t) (lists_in ys)
-lists-put ys c n u v t h k =
-    let e = entry_of u v t in
-    let s = put-to size_of refl ys c e h n k in
-    let l = put-to loss_of refl ys c e h n k in
-    let w = put-to weight_of refl ys c e h n k in
-    λ i. lists (s i) (l i) (w i)
+  pub lists-alone : n ≤ c + 1 → lists_in (set ys c e) ≡ stored_to c n (model e.size e.loss e.weight) (lists_in ys)
+  lists-alone p =
+      λ i. lists (alone size_of refl ys c n e there p i) (alone loss_of refl ys c n e there p i) (alone weight_of refl ys c n e there p i)

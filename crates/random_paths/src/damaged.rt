@@ -2,122 +2,83 @@
 // every call refuses those, and only those, that a test of all pairs of entries finds out of order.
 
 use crate::models;
-use testing::list::{MARK, at, differences, put};
-use testing::number::{fault, plus};
+use crate::models::{SMALL, damaged};
+use std::io;
+use std::num::Saturating;
+use std::ops::AddAssign;
+use testing::answer::faults;
+use testing::lists::{Lists, MARK, Model};
 use testing::random::{next, start};
 use testing::search::in_range;
-use testing::text::print;
 
 // What came of some paths.
-#[derive(Clone, Copy)]
+#[derive(Clone, Copy, Default)]
 struct Counts {
-    faults: u64,
-    refused: u64,
+    faults: Saturating<u64>,
+    refused: Saturating<u64>,
 }
 
-// Whether entry j is larger and heavier than entry i and has a smaller loss.
-fn follows(sizes: &[u64], losses: &[u64], weights: &[u64], i: usize, j: usize) -> bool {
-    at(sizes, i) < at(sizes, j) && at(losses, j) < at(losses, i) && at(weights, i) < at(weights, j)
-}
-
-// Whether entry j is in range, and follows each one before it.
-fn follows_all(sizes: &[u64], losses: &[u64], weights: &[u64], j: usize) -> bool {
-    for i in 0..j {
-        if !follows(sizes, losses, weights, i, j) {
-            return false;
-        }
+impl AddAssign for Counts {
+    fn add_assign(&mut self, more: Counts) {
+        self.faults += more.faults;
+        self.refused += more.refused;
     }
-    in_range(at(sizes, j), at(losses, j), at(weights, j))
 }
 
-// Whether the first entries of three lists are a path in order. A value past the end of a list is NONE, which is not in range.
-fn is_path(sizes: &[u64], losses: &[u64], weights: &[u64], entries: usize) -> bool {
-    for j in 0..entries {
-        if !follows_all(sizes, losses, weights, j) {
-            return false;
-        }
-    }
-    true
+// Whether an entry is larger and heavier than one before it and has a smaller loss.
+fn follows(before: Model, entry: Model) -> bool {
+    before.size < entry.size && entry.loss < before.loss && before.weight < entry.weight
 }
 
-// 1 where listing the breakpoints of a path is refused and it is good, or the other way round, and else 0.
-fn listing_fault(
-    sizes: &[u64],
-    losses: &[u64],
-    weights: &[u64],
-    entries: usize,
-    good: bool,
-) -> u64 {
-    let mut numerators = [MARK; 24];
-    let mut denominators = [MARK; 24];
+// Whether entries are a path in order: each is in range, and follows each one before it.
+fn is_path(entries: &[Model]) -> bool {
+    entries.iter().enumerate().all(|(i, entry)| {
+        in_range(*entry)
+            && entries
+                .iter()
+                .take(i)
+                .all(|before| follows(*before, *entry))
+    })
+}
+
+// Whether listing the breakpoints of a path is refused.
+fn listing_refused(path: &Lists<24>, entries: usize) -> bool {
     let listed = select::breakpoints(
-        sizes,
-        losses,
-        weights,
+        &path.sizes,
+        &path.losses,
+        &path.weights,
         entries,
-        &mut numerators,
-        &mut denominators,
+        &mut [MARK; 24],
+        &mut [MARK; 24],
     );
-    fault((listed.refusal == 8) != good)
+    listed.refusal == 8
 }
 
-// The mismatches of an append, which changes nothing if it is refused.
-fn append_faults(
-    sizes: [u64; 24],
-    losses: [u64; 24],
-    weights: [u64; 24],
-    entries: usize,
-    good: bool,
-) -> u64 {
-    let mut path_sizes = sizes;
-    let mut path_losses = losses;
-    let mut path_weights = weights;
+// The comparisons for a path of so many entries. An append that is refused changes nothing. There is no path of more entries than places.
+fn check_path(path: Lists<24>, entries: usize) -> Counts {
+    let models = path.models();
+    let bad = !models.get(..entries).is_some_and(is_path);
+    let selected = select::select(&path.sizes, &path.losses, &path.weights, entries, 1, 1);
+    let refused = selected.refusal == 8;
+    let mut appended = path;
     let made = path::append(
-        &mut path_sizes,
-        &mut path_losses,
-        &mut path_weights,
+        &mut appended.sizes,
+        &mut appended.losses,
+        &mut appended.weights,
         entries,
         65535,
         0,
         65535,
     );
-    let changed = plus(
-        differences(&path_sizes, &sizes),
-        plus(
-            differences(&path_losses, &losses),
-            differences(&path_weights, &weights),
-        ),
-    );
-    plus(
-        fault((made.refusal == 8) != good),
-        fault(made.refusal == 0 || changed == 0),
-    )
-}
-
-// The mismatches of a path of so many entries, and 1 where it is refused.
-fn check_path(sizes: [u64; 24], losses: [u64; 24], weights: [u64; 24], entries: usize) -> Counts {
-    let good = is_path(&sizes, &losses, &weights, entries);
-    let selected = select::select(&sizes, &losses, &weights, entries, 1, 1);
-    let refusals = plus(
-        fault((selected.refusal == 8) != good),
-        listing_fault(&sizes, &losses, &weights, entries, good),
-    );
     Counts {
-        faults: plus(
-            refusals,
-            append_faults(sizes, losses, weights, entries, good),
-        ),
-        refused: fault(selected.refusal != 8),
+        faults: Saturating(faults(&[
+            refused == bad,
+            listing_refused(&path, entries) == bad,
+            (made.refusal == 8) == bad,
+            made.refusal == 0 || appended == path,
+        ])),
+        refused: Saturating(u64::from(refused)),
     }
-}
-
-// A list with value i exchanged with value j, which may be the same, and then damaged.
-fn exchange(values: [u64; 24], i: usize, j: usize, kind: u64) -> [u64; 24] {
-    let mut changed = values;
-    let value = at(&values, i);
-    put(&mut changed, i, at(&values, j));
-    put(&mut changed, j, models::damaged(kind, value));
-    changed
 }
 
 // The path n: now and then with an entry more said than there are, with size and loss of the entry i, or its weight, exchanged with
@@ -125,40 +86,24 @@ fn exchange(values: [u64; 24], i: usize, j: usize, kind: u64) -> [u64; 24] {
 fn check_random(n: u64) -> Counts {
     let x = start(2, n);
     let y = next(x);
-    let sizes = models::rising(1, x);
-    let weights = models::rising(1, next(y));
-    let losses = models::losses(1, y, &weights, 0);
+    let mut path = models::draw(SMALL, SMALL, x, 0);
     let i = (x % 23) as usize + 1;
     let j = i - (y % 2) as usize;
     let k = i - (y / 2 % 2) as usize;
-    check_path(
-        exchange(sizes, i, j, n % 12),
-        exchange(losses, i, j, n / 12 % 12),
-        exchange(weights, i, k, n / 144 % 12),
-        25 - (y % 5) as usize,
-    )
+    path.sizes.swap(i, j);
+    path.losses.swap(i, j);
+    path.weights.swap(i, k);
+    path.sizes[j] = damaged(n % 12, path.sizes[j]);
+    path.losses[j] = damaged(n / 12 % 12, path.losses[j]);
+    path.weights[k] = damaged(n / 144 % 12, path.weights[k]);
+    check_path(path, 25 - (y % 5) as usize)
 }
 
-fn check_many(paths: u64) -> Counts {
-    let mut counts = Counts {
-        faults: 0,
-        refused: 0,
-    };
-    for i in 0..paths {
-        let more = check_random(i);
-        counts = Counts {
-            faults: plus(counts.faults, more.faults),
-            refused: plus(counts.refused, more.refused),
-        };
+pub fn run(rt: &impl Print) -> io::Result<()> {
+    let mut counts = Counts::default();
+    for i in 0..20000 {
+        counts += check_random(i);
     }
-    counts
-}
-
-pub fn run(rt: &impl Print) {
-    let counts = check_many(20000);
-    print(
-        rt,
-        b"20000 damaged paths: mismatches #, refused #\n",
-        &[counts.faults, counts.refused],
-    );
+    let (faults, refused) = (counts.faults.0, counts.refused.0);
+    println!(rt; "20000 damaged paths: mismatches {faults}, refused {refused}")
 }

@@ -7,7 +7,7 @@ ghost use Rattle.stream.specs.Table.{table_len, value, cell_due, row_due, column
 ghost use Rattle.stream.specs.Inner.{CellIn, RowIn, DueFrom};
 
 use crate::{MARK, MAX_ROWS, TABLE_LEN};
-use layout::get_u64;
+use layout::Item;
 use path::MAX_LOSS;
 use segment::MAX_SAMPLES;
 
@@ -34,7 +34,7 @@ impl<'a> Table<'a> {
         requires { CellIn k j }
         ensures { result ≡ value self.entry.bytes.now k j }
     {
-        get_u64(self.bytes, 8 * (MAX_SAMPLES * k + (j - 1)))
+        Item::<8>::get(self.bytes, 8 * (MAX_SAMPLES * k + (j - 1)))
     }
 
     // Whether a value is as is due: the mark where there are more segments than samples, and else at most 2^44.

@@ -3,6 +3,7 @@
 use path::PathResult;
 use std::fmt;
 
+// Stays: the refusal is a number with the rest beside it, as the C interface answers it, since that is what is compared and printed.
 #[derive(Clone, Copy, PartialEq, Eq)]
 pub struct Answer {
     pub refusal: u64,
@@ -34,4 +35,9 @@ impl fmt::Display for Answer {
             self.refusal, self.entries, self.tests,
         )
     }
+}
+
+// How many of some facts do not hold.
+pub fn faults(facts: &[bool]) -> u64 {
+    facts.iter().filter(|holds| !**holds).count() as u64
 }

@@ -4,6 +4,7 @@ use path::storage::Columns;
 use std::{array, fmt};
 
 // What the buffers of a test hold before a call, which is no size, no loss and no weight.
+// Stays: the C interface is lent plain numbers, so a place that a call left alone is told by a number that no call writes.
 pub const MARK: u64 = 99999999999999;
 
 // A size with its loss and its weight.
@@ -153,6 +154,17 @@ impl<'a, const N: usize> From<Columns<'a>> for Lists<N> {
         copy(front.sizes, &mut made.sizes);
         copy(front.losses, &mut made.losses);
         copy(front.weights, &mut made.weights);
+        made
+    }
+}
+
+impl<'a, const N: usize> From<&'a [Model]> for Lists<N> {
+    // Lists with these models at the front, as far as there are places, and else as before a call.
+    fn from(models: &'a [Model]) -> Self {
+        let mut made = Lists::marks();
+        for (i, model) in models.iter().enumerate() {
+            made.put(i, *model);
+        }
         made
     }
 }

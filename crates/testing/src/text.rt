@@ -22,6 +22,7 @@ impl Place for i16 {
 }
 
 // Some places of a buffer, each after a space. One that is as before is printed as `_`.
+#[derive(Clone, Copy)]
 pub struct Places<'a, T: Place>(pub &'a [T]);
 
 impl<'a, T: Place> Places<'a, T> {

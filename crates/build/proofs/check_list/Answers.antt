@@ -1,6 +1,6 @@
 -- `build::check_list` meets its contract. The loop's invariant: the models before place i are good, and the last of those entered is
 -- the last entry of their path.
-use mathlib.Core.Path.{◌≡◌, sym, ◌∙◌}
+use mathlib.Core.Path.{sym, ◌∙◌}
 use native.Mathlib.Omega.{arith}
 use Rattle.std.proofs.lemmas.Result.{err_from_is_err_and}
 use Rattle.path.proofs.Numbers.{number_some}

@@ -1,34 +1,23 @@
-use mathlib.Core.Path.{◌≡◌, ap, sym, ◌∙◌}
+-- `models::store` meets its contract: with places to clear, and with none.
+use mathlib.Core.Path.{ap, ◌∙◌}
 use mathlib.Core.List.{List}
-use Prim.Native.Nat.{◌+◌, ◌-◌}
+use Prim.Native.Nat.{ℕ, ◌+◌, ◌-◌}
 use native.Mathlib.Omega.{arith}
-use lib.ListN.{set}
-use Rattle.models.specs.declared.Entry.{Entry}
+use lib.ListN.{replicate, set, length-set}
+use borrow.Rule.Slice.PartMut.{put_mid, mid_len}
 use Rattle.models.specs.Entries.{lists_in}
-use Rattle.models.specs.Inner.{entry_of, no_entry}
-use Rattle.models.proofs.Stores.{put, put-first, put-more, lists-put}
+use Rattle.models.specs.Inner.{no_entry}
+use Rattle.path.specs.declared.storage.Entry.{Entry}
+use Rattle.models.proofs.Stores.{lists-clears, lists-alone}
 use Rattle.models.proofs.store.Goals as goal
 
-pub loop-i-init : goal.loop-i-init
-loop-i-init c =
+pub returns-then-kept-n : goal.returns-then-kept-n
+returns-then-kept-n c =
     let a = c.args in
-    (omega arith, omega arith, sym (put-first a.entries.now a.kept (entry_of a.size a.loss a.weight)))
+    let e = a.kept + 1 in
+    let s = set a.entries.now a.kept a.new in
+    ap (λ (zs : List Entry). lists_in (put_mid e (a.n - e) s zs)) (c.fill.ensures.after (λ y h. h) ∙ ap (λ (m : ℕ). replicate m no_entry) (mid_len e a.n s (simp length-set (omega arith))))
+    ∙ lists-clears a.entries.now a.kept a.n a.new c.requires.0 c.requires.1 c.if-kept-n.true
 
-pub loop-i-preserved : goal.loop-i-preserved
-loop-i-preserved c =
-    let a = c.args in
-    let i = c.loop-i.i in
-    let inv = c.loop-i.invariant in (
-      omega arith,
-      omega arith,
-      ap (λ (es : List Entry). set es i no_entry) inv.2
-          ∙ sym (put-more a.entries.now a.kept (entry_of a.size a.loss a.weight) i inv.0),
-    )
-
-pub returns : goal.returns
-returns c =
-    let a = c.args in
-    let inv = c.loop-i.invariant in
-    let all : c.loop-i.i - (a.kept + 1) ≡ a.n - (a.kept + 1) = omega (arith, inv.0, inv.1) in
-    ap lists_in (inv.2 ∙ ap (put a.entries.now a.kept (entry_of a.size a.loss a.weight)) all)
-    ∙ lists-put a.entries.now a.kept a.n a.size a.loss a.weight c.requires.0 c.requires.1
+pub returns-else-kept-n : goal.returns-else-kept-n
+returns-else-kept-n c = lists-alone c.args.entries.now c.args.kept c.args.n c.args.new c.requires.0 c.if-kept-n.false

@@ -1,5 +1,5 @@
 -- `path::append_to` meets its contract: refused, or accepted, with the three lists stored where the model is not passed over.
-use mathlib.Core.Path.{◌≡◌, refl, ap, sym, ◌∙◌}
+use mathlib.Core.Path.{refl, ap, sym, ◌∙◌}
 use native.Mathlib.Omega.{arith}
 use Rattle.std.proofs.lemmas.Result.{err_from_is_err_and}
 use Rattle.path.specs.declared.Kept.{Kept}

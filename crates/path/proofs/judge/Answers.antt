@@ -1,15 +1,12 @@
 -- `path::judge` meets its contract: refused for its input, passed over, refused for want of room, or tried.
 use mathlib.Core.Path.{◌≡◌, ap, sym, ◌∙◌}
-use mathlib.Core.Bool.{false}
 use Prim.Native.Nat.{◌+◌}
 use native.Mathlib.Omega.{arith}
-use lib.ListN.{length}
-use Rattle.std.proofs.Common.{Some, None}
+use Rattle.std.proofs.Common.{Some}
 use Rattle.std.proofs.lemmas.Result.{err_from_is_err_and}
 use Rattle.path.specs.declared.Kept.{Kept}
 use Rattle.path.specs.declared.tally.Tally.{Tally}
-use Rattle.path.specs.Model.{Model, Lists, path_of}
-use Rattle.path.specs.Refusal.{check, refusal_of, valid_path, model_checks}
+use Rattle.path.specs.Model.{path_of}
 use Rattle.path.specs.Update.{tests_made}
 use Rattle.path.specs.Inner.{tally_of, model_of}
 use Rattle.path.proofs.Numbers.{number_some}

@@ -1,6 +1,6 @@
 -- `path::ordered` meets its contract. The loop's invariant: the check has come to the entry before the place at hand.
-use mathlib.Core.Path.{◌≡◌, ap, sym, ◌∙◌}
-use Prim.Native.Nat.{suc, ◌-◌}
+use mathlib.Core.Path.{ap, sym, ◌∙◌}
+use Prim.Native.Nat.{◌-◌}
 use native.Mathlib.Omega.{arith}
 use Rattle.path.specs.Refusal.{in_range, follows}
 use Rattle.path.proofs.Turns.{ordered-none, range-fails, reached-last, neighbours-fail, reached-before, reached-first}

@@ -23,12 +23,6 @@ raised_level-v-requires c =
       sum_low = rw (p.sum, p.len) (raised_sum-low _ p.segment.small);
     }
 
-pub overflow_cast-result : goal.overflow_cast-result
-overflow_cast-result c = let p = between c.requires in record { fits = omega (arith, p.sum, sum_low p.segment) }
-
-pub overflow_mul-result : goal.overflow_mul-result
-overflow_mul-result c = let p = between c.requires in record { fits = omega (arith, p.sum, sum_low p.segment) }
-
 pub overflow_mul-result-2 : goal.overflow_mul-result-2
 overflow_mul-result-2 c = let p = between c.requires in record { fits = rw p.len (omega (arith, (gain p c.raised_level-v.ensures).taken, sum_low p.segment)) }
 

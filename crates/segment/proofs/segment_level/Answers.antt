@@ -53,11 +53,6 @@ module _ {samples : List ℤ} {from to sum : ℕ} (r : SegmentIn samples from to
 pub overflow_cast-sum : goal.overflow_cast-sum
 overflow_cast-sum c = record { sfits = omega (arith, c.raised_sum-sum.ensures.is, sum_low (part c.requires c.raised_sum-sum.ensures)) }
 
-pub overflow_mul-n : goal.overflow_mul-n
-overflow_mul-n c =
-    let s = c.raised_sum-sum.ensures in
-    rw (n-bits c.requires s) (product-fits c.requires s)
-
 pub overflow_sub-sum : goal.overflow_sub-sum
 overflow_sub-sum c =
     let s = c.raised_sum-sum.ensures in

@@ -33,15 +33,6 @@ overflow_mul-v c = record { fits = omega (arith, (part c.requires).sum-small) }
 pub overflow_add-v : goal.overflow_add-v
 overflow_add-v c = record { fits = omega (arith, (part c.requires).sum-small, c.requires.segment.short, c.requires.segment.within) }
 
-pub overflow_cast-v : goal.overflow_cast-v
-overflow_cast-v c = record { fits = omega (arith, (part c.requires).level-small) }
-
-pub overflow_mul-result-2 : goal.overflow_mul-result-2
-overflow_mul-result-2 c = record { fits = omega (arith, (part c.requires).taken, (part c.requires).sum-small) }
-
-pub overflow_sub-result : goal.overflow_sub-result
-overflow_sub-result c = omega (arith, (part c.requires).taken)
-
 pub overflow_mul-result-3 : goal.overflow_mul-result-3
 overflow_mul-result-3 c = record { fits = product-fits (part c.requires).level-small (omega (arith, (part c.requires).sum-small)) }
 

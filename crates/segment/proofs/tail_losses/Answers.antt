@@ -1,22 +1,23 @@
 -- `segment::tail_losses` meets its contract. The invariant: the sums are those of the samples from i on as far as `to`, these were read,
--- and the cells from i on have their losses. The measure is i.
-use mathlib.Core.Path.{◌≡◌, refl, ◌∙◌, ap, subst}
+-- and the cells from i on have their losses.
+use mathlib.Core.Path.{◌≡◌, ◌∙◌, ap, subst}
 use mathlib.Core.Logic.{⊎_elim}
 use mathlib.Core.List.{List}
 use Prim.Native.Nat.{ℕ, suc, ◌+◌, ◌-◌, ◌≤◌, ◌<◌}
 use native.Mathlib.Nat.{eq-or-lt_of_le}
 use native.Mathlib.Omega.{arith}
 use lib.IntN.{ℤ, pos}
-use lib.ListN.{length, get_or, set, take, length-set}
+use lib.ListN.{length, get_or, set, take}
 use lib.Seq.{slice, length-take-le, drop-cons, get_or-take, get_or-set_same, get_or-set_other}
 use mir.Syntax.{w16}
 use mir.Facts.{to_z-of_z}
 use Rattle.segment.specs.Segment.{Sample16, segment_loss}
-use Rattle.segment.specs.Inner.{max_raised, max_square, raised, raised_square, sum_of, TailsFrom, SumsIn, TailLosses}
+use Rattle.segment.specs.Inner.{max_raised, max_square, raised, raised_square, sum_of, TailsFrom, SumsIn}
 use Rattle.segment.proofs.Bounds.{fits-sample, slice_fits}
 use Rattle.segment.proofs.Sums.{sumOf-slice}
 use Rattle.segment.proofs.tail_losses.Invariants.{Sums, Tails}
 use Rattle.segment.proofs.tail_losses.Goals as goal
+use Rattle.segment.proofs.tail_losses.Goals.{After-raised_square-squares}
 
 -- A sum over a segment with one sample more in front.
 sum-front : (f : ℤ → ℕ) (xs : List ℤ) (i to : ℕ) → i < to → to ≤ length xs → sum_of f (slice i to xs) ≡ f (get_or xs i (pos 0)) + sum_of f (slice (suc i) to xs)
@@ -25,7 +26,7 @@ sum-front f xs i to h u =
     ap (sum_of f) (drop-cons (take to xs) i (pos 0) (omega (arith, length-take-le to xs u)))
     ∙ ap (λ (x : ℤ). f x + sum_of f (slice (suc i) to xs)) (get_or-take to xs i (pos 0) h)
 
-tails-start : {samples : List ℤ} {to : ℕ} {losses : List ℕ} → TailsFrom samples to losses → Tails samples to losses losses to 0 0
+tails-start : {samples : List ℤ} {to : ℕ} {losses : List ℕ} → TailsFrom samples to losses → Tails samples to losses to 0 0
 tails-start {samples} {to} p = record {
   sums = record {
     low = omega arith;
@@ -35,7 +36,6 @@ tails-start {samples} {to} p = record {
     sum_low = omega arith;
     squares-low = omega arith;
   };
-  long = refl;
   are = λ j l u. absurd (omega arith);
 }
 
@@ -67,68 +67,30 @@ sums-in {samples} {to} {i} p h s = record {
   squares_are = s.squares_are;
 }
 
-tails-next : {samples : List ℤ} {to i sum squares sum' squares' : ℕ} {losses₀ losses : List ℕ} → TailsFrom samples to losses₀ → Tails samples to losses₀ losses i sum squares → 0 < i
-    → Sums samples to (i - 1) sum' squares' → (loss : ℕ) → loss ≡ segment_loss (slice (i - 1) to samples) → Tails samples to losses₀ (set losses (i - 1) loss) (i - 1) sum' squares'
-tails-next {samples} {to} {i} {losses = losses} p t h s loss e = record {
+tails-next : {samples : List ℤ} {to i sum squares sum' squares' : ℕ} {losses : List ℕ} → Tails samples to losses i sum squares → 0 < i → i ≤ length losses
+    → Sums samples to (i - 1) sum' squares' → (loss : ℕ) → loss ≡ segment_loss (slice (i - 1) to samples) → Tails samples to (set losses (i - 1) loss) (i - 1) sum' squares'
+tails-next {samples} {to} {i} {losses = losses} t h room s loss e = record {
   sums = s;
-  long = length-set losses (i - 1) loss ∙ t.long;
   are = λ j l u. ⊎_elim
-      (λ q. subst (λ (m : ℕ). get_or (set losses (i - 1) loss) m 0 ≡ segment_loss (slice m to samples)) q (get_or-set_same losses (i - 1) loss 0 (omega (arith, t.long, t.sums.low, p.room)) ∙ e))
+      (λ q. subst (λ (m : ℕ). get_or (set losses (i - 1) loss) m 0 ≡ segment_loss (slice m to samples)) q (get_or-set_same losses (i - 1) loss 0 (omega arith) ∙ e))
       (λ q. get_or-set_other losses (i - 1) j loss 0 (λ z. omega arith) ∙ t.are j (omega arith) u)
       (eq-or-lt_of_le {n = i - 1} {m = j} l);
 }
 
-tails_end : {samples : List ℤ} {to i sum squares : ℕ} {losses₀ losses : List ℕ} → i ≡ 0 → Tails samples to losses₀ losses i sum squares → TailLosses samples to losses
-tails_end e t = record { fit = λ j u. t.sums.fit j (omega arith) u; are = λ j u. t.are j (omega arith) u }
+-- What a turn reads.
+read : (c : After-raised_square-squares) → Sums c.args.samples.now c.args.to (c.loop-i.i - 1) (c.loop-i.sum + c.raise-sum.result) (c.loop-i.squares + c.raised_square-squares.result)
+read c =
+    let sample = c.raise-arg-1.given in
+    let again = c.raised_square-arg-1.given in
+    sums_next c.raise-sum.result c.raised_square-squares.result c.requires.within c.loop-i-test.true (fits-sample _ sample)
+    (c.raise-sum.ensures.0 ∙ ap raised (to_z-of_z {w = w16} (record { sfits = sample }))) c.raise-sum.ensures.1
+    (c.raised_square-squares.ensures.0 ∙ ap raised_square (to_z-of_z {w = w16} (record { sfits = again }))) c.raised_square-squares.ensures.1 c.loop-i.invariant.sums
 
 pub loop-i-init : goal.loop-i-init
 loop-i-init c = tails-start c.requires
 
-pub offset_bounds-samples-i : goal.offset_bounds-samples-i
-offset_bounds-samples-i c = omega (arith, c.loop-i.invariant.sums.low, c.requires.within)
-
-pub bounds-samples-i : goal.bounds-samples-i
-bounds-samples-i c = omega (arith, c.loop-i.invariant.sums.low, c.requires.within)
-
-pub overflow_add-sum : goal.overflow_add-sum
-overflow_add-sum c = omega (arith, c.loop-i.invariant.sums.sum_low, c.loop-i.invariant.sums.low, c.requires.short, c.requires.within)
-
-pub offset_bounds-samples-i-in-loop-i : goal.offset_bounds-samples-i-in-loop-i
-offset_bounds-samples-i-in-loop-i c = omega (arith, c.loop-i.invariant.sums.low, c.requires.within)
-
-pub bounds-samples-i-in-loop-i : goal.bounds-samples-i-in-loop-i
-bounds-samples-i-in-loop-i c = omega (arith, c.loop-i.invariant.sums.low, c.requires.within)
-
-pub overflow_add-squares : goal.overflow_add-squares
-overflow_add-squares c = omega (arith, c.loop-i.invariant.sums.squares-low, c.loop-i.invariant.sums.low, c.requires.short, c.requires.within)
-
 pub segment_loss-requires : goal.segment_loss-requires
-segment_loss-requires c =
-    let read : Sums c.args.samples.now c.args.to (c.loop-i.i - 1) (c.loop-i.sum + c.raise-sum.result) (c.loop-i.squares + c.raised_square-squares.result) = let lp = c.loop-i in
-    let pre = c.requires in
-    let sample = c.raise-arg-1.given in
-    let again = c.raised_square-arg-1.given in
-    sums_next c.raise-sum.result c.raised_square-squares.result pre.within c.loop-i-test.true (fits-sample _ sample)
-    (c.raise-sum.ensures.0 ∙ ap raised (to_z-of_z {w = w16} (record { sfits = sample }))) c.raise-sum.ensures.1
-    (c.raised_square-squares.ensures.0 ∙ ap raised_square (to_z-of_z {w = w16} (record { sfits = again }))) c.raised_square-squares.ensures.1 lp.invariant.sums in
-    sums-in c.requires (omega (arith, c.loop-i.invariant.sums.low)) read
-
-pub offset_bounds-losses-i : goal.offset_bounds-losses-i
-offset_bounds-losses-i c = omega (arith, c.loop-i.invariant.sums.low, c.loop-i.invariant.long, c.requires.room)
-
-pub bounds-losses-i : goal.bounds-losses-i
-bounds-losses-i c = omega (arith, c.loop-i.invariant.sums.low, c.loop-i.invariant.long, c.requires.room)
+segment_loss-requires c = sums-in c.requires (omega arith) (read (goal.at.segment_loss-requires c).After-raised_square-squares)
 
 pub loop-i-preserved : goal.loop-i-preserved
-loop-i-preserved c =
-    let read : Sums c.args.samples.now c.args.to (c.loop-i.i - 1) (c.loop-i.sum + c.raise-sum.result) (c.loop-i.squares + c.raised_square-squares.result) = let lp = c.loop-i in
-    let pre = c.requires in
-    let sample = c.raise-arg-1.given in
-    let again = c.raised_square-arg-1.given in
-    sums_next c.raise-sum.result c.raised_square-squares.result pre.within c.loop-i-test.true (fits-sample _ sample)
-    (c.raise-sum.ensures.0 ∙ ap raised (to_z-of_z {w = w16} (record { sfits = sample }))) c.raise-sum.ensures.1
-    (c.raised_square-squares.ensures.0 ∙ ap raised_square (to_z-of_z {w = w16} (record { sfits = again }))) c.raised_square-squares.ensures.1 lp.invariant.sums in
-    tails-next c.requires c.loop-i.invariant c.loop-i-test.true read c.segment_loss.result c.segment_loss.ensures
-
-pub returns : goal.returns
-returns c = tails_end (omega arith) c.loop-i.invariant
+loop-i-preserved c = tails-next c.loop-i.invariant c.loop-i-test.true (omega arith) (read (goal.at.loop-i-preserved c).After-raised_square-squares) c.segment_loss.result c.segment_loss.ensures

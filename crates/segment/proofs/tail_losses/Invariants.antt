@@ -1,6 +1,6 @@
 -- `segment::tail_losses` meets its contract. The invariant: the sums are those of the samples from i on as far as `to`, these were read,
--- and the cells from i on have their losses. The measure is i.
-use Rattle.std.proofs.Common.{◌≡◌, ℕ, ◌+◌, ◌*◌, ◌≤◌, ◌<◌, List, ℤ, pos, length, get_or}
+-- and the cells from i on have their losses.
+use Rattle.std.proofs.Common.{◌≡◌, ℕ, ◌+◌, ◌*◌, ◌≤◌, ◌<◌, List, ℤ, pos, get_or}
 use Rattle.std.proofs.Math.Seq.{slice}
 use Rattle.segment.specs.Segment.{Sample16, segment_loss}
 use Rattle.segment.specs.Inner.{max_raised, max_square, raised_sum, raised_squares}
@@ -16,13 +16,9 @@ pub record Sums (samples : List ℤ) (to i sum squares : ℕ) : Type 0 where
   pub squares-low : squares + max_square * i ≤ max_square * to
 
 -- The loop's invariant.
-pub record Tails (samples : List ℤ) (to : ℕ) (losses₀ losses : List ℕ) (i sum squares : ℕ) : Type 0 where
+pub record Tails (samples : List ℤ) (to : ℕ) (losses : List ℕ) (i sum squares : ℕ) : Type 0 where
   pub sums : Sums samples to i sum squares
-  pub long : length losses ≡ length losses₀
   pub are : (j : ℕ) → i ≤ j → j < to → get_or losses j 0 ≡ segment_loss (slice j to samples)
 
 abbrev pub invariant-loop-i : goal.invariant-loop-i
-invariant-loop-i l = Tails l.samples l.to l.initial.losses l.losses l.i l.sum l.squares
-
-abbrev pub decreases-loop-i : goal.decreases-loop-i
-decreases-loop-i l = l.i
+invariant-loop-i l = Tails l.samples l.to l.losses l.i l.sum l.squares

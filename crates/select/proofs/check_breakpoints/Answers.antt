@@ -1,7 +1,6 @@
 -- `select::check_breakpoints` meets its contract: the number is that of the first check that fails.
 use mathlib.Core.Path.{ap, sym, ◌∙◌}
 use mathlib.Core.Bool.{Bool, cond}
-use Prim.Native.Nat.{ℕ}
 use Rattle.path.specs.Refusal.{check, valid_path}
 use Rattle.path.proofs.Checks.{check-fails}
 use Rattle.select.proofs.Listings.{listing-decides}

@@ -2,7 +2,6 @@
 use mathlib.Core.Path.{sym}
 use Rattle.std.proofs.lemmas.Result.{err_from_is_err_and}
 use Rattle.path.proofs.Numbers.{number_some}
-use lib.ListN.{length}
 use Rattle.select.proofs.Listings.{breakpoints-refused, listable, breakpoints-done}
 use Rattle.select.proofs.list_breakpoints.Goals as goal
 

@@ -1,14 +1,13 @@
 -- `select::select_from` meets its contract: refused, or the entry at which the walk ends.
 use mathlib.Core.Path.{◌≡◌, ap, sym, ◌∙◌}
-use mathlib.Core.Bool.{true}
-use Prim.Native.Nat.{◌+◌, ◌-◌, ◌≤◌}
+use Prim.Native.Nat.{◌+◌, ◌-◌}
 use native.Mathlib.Omega.{arith}
 use borrow.Author.Tests.{le-leb}
-use Rattle.std.proofs.Common.{Some, None}
+use Rattle.std.proofs.Common.{None}
 use Rattle.std.proofs.lemmas.Option.{MatchOption-at_some, MatchOption-at_none}
 use Rattle.std.proofs.lemmas.Result.{err_from_is_err_and}
 use Rattle.path.specs.declared.refusal.Refusal.TheVariants as refusal
-use Rattle.path.specs.Model.{Model, Lists}
+use Rattle.path.specs.Model.{Model}
 use Rattle.path.specs.Refusal.{check, refusal_of, valid_path}
 use Rattle.path.proofs.Checks.{check-fails}
 use Rattle.path.proofs.Order.{valid-parts, places-fewer}

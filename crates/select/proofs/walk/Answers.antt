@@ -1,5 +1,5 @@
 -- `select::walk` meets its contract. The loop's invariant: the walk from the entry before the next ends where the whole walk does.
-use mathlib.Core.Path.{◌≡◌, ap, sym, ◌∙◌}
+use mathlib.Core.Path.{◌≡◌}
 use Prim.Native.Nat.{◌+◌, ◌-◌}
 use native.Mathlib.Omega.{arith}
 use Rattle.select.proofs.Walks.{walk_ends, walk-stops, walk-on}

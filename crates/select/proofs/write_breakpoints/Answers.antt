@@ -1,6 +1,5 @@
 -- `select::write_breakpoints` meets its contract. The loop's invariant: the buffers hold the breakpoints of the first i + 1 entries.
-use mathlib.Core.Path.{◌≡◌, refl, ap}
-use Prim.Native.Nat.{◌+◌, ◌-◌}
+use mathlib.Core.Path.{ap}
 use native.Mathlib.Omega.{arith}
 use Rattle.path.specs.Update.{Fraction}
 use Rattle.select.proofs.Listings.{written_none, written-more}

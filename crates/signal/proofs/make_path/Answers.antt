@@ -1,5 +1,5 @@
 -- `signal::make_path` meets its contract: the table, then the path of its losses.
-use mathlib.Core.Path.{subst}
+use mathlib.Core.Path.{sym, subst}
 use mathlib.Core.List.{List}
 use Prim.Native.Nat.{ℕ, ◌≤◌, ◌<◌, min}
 use native.Mathlib.Omega.{arith}
@@ -9,7 +9,7 @@ use lib.Seq.{length-take-le}
 use Rattle.path.specs.Model.{Model, lists}
 use Rattle.path.specs.Refusal.{max_loss}
 use Rattle.path.proofs.Order.{places-fewer}
-use Rattle.weights.proofs.Steps.{weighs-fewer}
+use Rattle.weights.specs.Inner.{Weighable}
 use Rattle.least.specs.Inner.{Table}
 use Rattle.least.proofs.Counts.{count-bounds, count_most}
 use Rattle.signal.specs.SignalPath.{path_buffers}
@@ -39,15 +39,14 @@ write_path-requires c =
     let some = (count-bounds n s.min_segment_len s.max_segments t.result r.one_sample r.enough r.one t.ensures.0).0 in
     let most = count_most n s.min_segment_len s.max_segments t.result t.ensures.0 in
     let buffers = lists a.path_sizes.now a.path_losses.now a.path_weights.now in
-    let fits = places-fewer buffers (min s.max_segments n) places.result c.requires.fits (omega (arith, most, places.ensures)) in
     let l = listed (goal.at.write_path-requires c).After-fill_table-count in
     record {
-      losses_from = front-from s.weights.now t.new.losses t.result buffers l some (omega (arith, most, r.few))
-          (places-fewer buffers places.result t.result fits (omega (arith, most, places.ensures))) (first-loss t.ensures.1 some)
-          (weighs-fewer s.weights.now s.max_segments t.result r.weighable (omega (arith, most)));
+      losses_from = front-from a.weights.now t.new.losses t.result buffers l some (omega (arith, most, r.few))
+          (places-fewer buffers (min s.max_segments n) t.result c.requires.room.fits (omega (arith, most))) (first-loss t.ensures.1 some)
+          (subst (Weighable a.weights.now) (sym t.ensures.0) c.requires.weighable);
       within = omega (arith, most, places.ensures, length-take-le t.result t.new.losses l);
       few = omega (arith, most, places.ensures, r.few);
-      fits = fits;
+      fits = places-fewer buffers (min s.max_segments n) _ c.requires.room.fits (omega (arith, most, places.ensures));
     }
 
 pub returns : goal.returns
@@ -59,6 +58,6 @@ returns c =
     let places = c.places in
     let b = path_buffers (lists a.path_sizes.now a.path_losses.now a.path_weights.now) a.scratch.now in
     let l = listed (goal.at.returns c).After-fill_table-count in
-    solved s.samples.now s.max_segments s.min_segment_len s.weights.now t.result places.result t.ensures.0 places.ensures
-    t.new.losses b (lists _ _ _) t.new.scratch p.result t.ensures.1 (omega (arith, t.auto.scratch, c.requires.scratch_fits))
-    (subst (λ (path : List Model). PathWritten path places.result b.lists (lists p.new.path_sizes p.new.path_losses p.new.path_weights) p.result) (front-path s.weights.now t.new.losses t.result l) p.ensures)
+    solved s.samples.now s.max_segments s.min_segment_len a.weights.now t.result places.result t.ensures.0 places.ensures
+    t.new.losses b (lists _ _ _) t.new.scratch p.result t.ensures.1 (omega (arith, t.auto.scratch, c.requires.room.scratch_fits))
+    (subst (λ (path : List Model). PathWritten path places.result b.lists (lists p.new.path_sizes p.new.path_losses p.new.path_weights) p.result) (front-path a.weights.now t.new.losses t.result l) p.ensures)

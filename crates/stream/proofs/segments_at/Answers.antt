@@ -6,6 +6,6 @@ use Rattle.stream.proofs.segments_at.Goals as goal
 pub returns : goal.returns
 returns c =
     let a = c.args in
-    segments-are a.table.bytes.now a.j a.count a.p a.q _ (lists _ _ _) _
-    c.requires.0.some
-    c.requires.1 c.column_path-entries.ensures c.select-found.result c.select-found.ensures
+    segments-are a.table.bytes.now a.j a.count a.penalty.p a.penalty.q _ (lists _ _ _) _
+    c.requires.some
+    a.penalty.in_range c.column_path-entries.ensures c.select-found.result c.select-found.ensures

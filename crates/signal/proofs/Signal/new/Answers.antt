@@ -1,7 +1,5 @@
 -- `signal::Signal::new` meets its contract: what passes its checks is in range.
-use mathlib.Core.Path.{sym}
 use native.Mathlib.Omega.{arith}
-use Rattle.weights.proofs.Steps.{weighs}
 use Rattle.signal.proofs.Signal.new.Goals as goal
 
 pub invariant_of-result : goal.invariant_of-result
@@ -13,6 +11,5 @@ invariant_of-result c = record {
     few = omega arith;
     one_sample = omega arith;
     enough = omega arith;
-    weighable = weighs c.args.weights.now c.args.max_segments (sym c.in_ok-check_weights.ensures) (omega arith);
   };
 }

@@ -15,9 +15,9 @@ overflow_add-k c = omega (arith, c.requires.few, c.requires.within)
 pub overflow_mul-k-2 : goal.overflow_mul-k-2
 overflow_mul-k-2 c = omega (arith, c.requires.few, c.requires.within)
 
-pub get_u64-requires : goal.get_u64-requires
-get_u64-requires c = omega (arith, c.requires.few, c.requires.one, c.requires.within, c.args.self.whole)
+pub get-requires : goal.get-requires
+get-requires c = omega (arith, c.requires.few, c.requires.one, c.requires.within, c.args.self.whole)
 
 pub returns : goal.returns
 unfolding value
-returns c = c.get_u64.ensures
+returns c = c.get.ensures
