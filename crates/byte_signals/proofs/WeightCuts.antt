@@ -54,10 +54,8 @@ item-at w i n h =
 
 -- The range of the weights from one on.
 pub rest-turn : (w : List ℕ) (i : ℕ) → i < length w / 2
-    → all_in_range (drop i (items_of 2 w)) ≡ (weight_in_range (item 2 w (2 * i)) && all_in_range (drop (i + 1) (items_of 2 w)))
-rest-turn w i h =
-    range-turn (items_of 2 w) i (omega (arith, length-items 2 w (length w / 2)))
-    ∙ ap (λ (v : ℕ). weight_in_range v && all_in_range (drop (i + 1) (items_of 2 w))) (item-at w i (length w / 2) h)
+    → all_in_range (drop i (items_of 2 w)) ≡ (weight_in_range (get_or (items_of 2 w) i 0) && all_in_range (drop (i + 1) (items_of 2 w)))
+rest-turn w i h = range-turn (items_of 2 w) i (omega (arith, length-items 2 w (length w / 2)))
 
 pub rest_end : (w : List ℕ) (i : ℕ) → length w / 2 ≤ i → all_in_range (drop i (items_of 2 w)) ≡ true
 rest_end w i h = range-end (items_of 2 w) i (omega (arith, length-items 2 w (length w / 2)))

@@ -4,7 +4,8 @@ use Rattle.coding.specs.Inner.{ListsFit}
 use Rattle.segment.specs.Segment.{max_samples}
 use Rattle.least.specs.Segmentation.{max_segments}
 use Rattle.signal.specs.SignalPath.{PathBuffers}
-use Rattle.byte_signals.specs.Signals.{SignalStrings, signal_coding, path_coding, SplitStrings, split_coding}
+use Rattle.byte_signals.specs.declared.ByteSignal.{ByteSignal}
+use Rattle.byte_signals.specs.Signals.{SignalStrings, signal_strings, signal_coding, path_coding, SplitStrings, split_coding}
 
 -- The most samples that are read, one more than a signal may have.
 abbrev pub read_samples : ℕ
@@ -13,6 +14,10 @@ read_samples = suc max_samples
 -- The most weights that are kept, one more than the largest limit.
 abbrev pub read_weights : ℕ
 read_weights = suc max_segments
+
+-- The strings of a signal in byte strings.
+abbrev pub strings_in : ByteSignal → SignalStrings
+strings_in s = signal_strings s.samples.now s.weights.now
 
 -- Two lists have as many places as there are samples and weights to keep.
 pub record InputFits (x : SignalStrings) (n v : ℕ) : Type 0 where

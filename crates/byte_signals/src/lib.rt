@@ -11,12 +11,14 @@ ghost use Rattle.weights.specs.Weights.{all_in_range};
 ghost use Rattle.weights.specs.Inner.{folded};
 ghost use Rattle.least.specs.Segmentation.{max_segments};
 ghost use Rattle.signal.specs.SignalPath.{path_buffers};
-ghost use Rattle.byte_signals.specs.Signals.{signal_strings, signal_path_bytes_of, split_strings, split_bytes_of};
-ghost use Rattle.byte_signals.specs.Inner.{read_weights, PathFits, SplitFits};
+ghost use Rattle.byte_signals.specs.Signals.{signal_strings, signal_coding, signal_path_bytes_of, split_strings, split_bytes_of};
+ghost use Rattle.byte_signals.specs.Inner.{read_weights, strings_in, PathFits, SplitFits};
 
-use coding::{encode_models, encode_segments, read_models, read_segments};
-use layout::{get, read_i16s, read_items};
-use least::{MAX_SEGMENTS, smaller};
+use coding::{ByteColumns, read_segments, write_models, write_segments};
+use layout::{item_at, read_items};
+use least::MAX_SEGMENTS;
+use path::refusal::Refusal;
+use path::storage::Columns;
 use segment::MAX_SAMPLES;
 use signal::{SignalPathResult, SplitResult};
 
@@ -26,42 +28,52 @@ pub const READ_SAMPLES: usize = MAX_SAMPLES + 1;
 // The most weights that are kept, one more than the largest limit: too many stay too many.
 const READ_WEIGHTS: usize = MAX_SEGMENTS + 1;
 
+// A signal in byte strings, its samples and weights, with the most segments and the least length of a segment, as they are lent.
+#[derive(Clone, Copy)]
+struct ByteSignal<'a> {
+    samples: &'a [u8],
+    max_segments: u64,
+    min_segment_len: u64,
+    weights: &'a [u8],
+}
+
+impl<'a> ByteSignal<'a> {
+    // How many bytes are left over after whole items.
+    fn spare(&self) -> usize
+        ensures { result ≡ signal_coding.spare (strings_in self.now) }
+    {
+        self.samples.len() % 2 + self.weights.len() % 2
+    }
+}
+
 // Whether the weights after the first 32 are in range.
 fn rest_in_range(weights: &[u8]) -> bool
     ensures { result ≡ all_in_range (drop max_segments (items_of 2 weights.now)) }
 {
-    let count = weights.len() / 2;
-    let mut i = MAX_SEGMENTS;
-    while i < count {
-        if !path::weight_in_range(get(weights, 2 * i, 2)) {
+    for i in MAX_SEGMENTS..weights.len() / 2 {
+        if !path::weight_in_range(item_at::<2, u64>(weights, i)) {
             return false;
         }
-        i += 1;
     }
     true
 }
 
 // Reads the first weights, 33 at most, and looks at all. Where one after the first 32 is out of range, the last one read is 0, so that
 // those read are refused as all of them are.
+// Stays: a value for a refusal, because of what the call on numbers is lent, a list of weights alone, which it checks itself.
 fn read_weights(weights: &[u8], items: &mut [u64])
     requires { length items.old ≡ min (length weights.now / 2) read_weights }
     ensures { items.new ≡ folded max_segments (items_of 2 weights.now) }
 {
-    read_items(weights, 2, items);
-    if items.len() <= MAX_SEGMENTS {
-        return;
-    }
-    if !rest_in_range(weights) {
+    read_items::<2, u64>(weights, items);
+    if MAX_SEGMENTS < items.len() && !rest_in_range(weights) {
         items[MAX_SEGMENTS] = 0;
     }
 }
 
 // A path call by lists with as many places as there are items to look at.
 fn path_items(
-    samples: &[u8],
-    max_segments: u64,
-    min_segment_len: u64,
-    weights: &[u8],
+    signal: &ByteSignal,
     path_sizes: &mut [u8],
     path_losses: &mut [u8],
     path_weights: &mut [u8],
@@ -73,7 +85,7 @@ fn path_items(
     path_weight_items: &mut [u64],
 ) -> SignalPathResult
     requires { PathFits
-        (signal_strings samples.now weights.now)
+        (strings_in signal.now)
         (path_buffers (lists path_sizes.old path_losses.old path_weights.old) scratch.old)
         (length sample_items.old) (length weight_items.old)
         (length size_items.old) (length loss_items.old) (length path_weight_items.old) }
@@ -81,41 +93,39 @@ fn path_items(
         (path_buffers
         (lists path_sizes.new path_losses.new path_weights.new)
         scratch.new)
-        ≡ signal_path_bytes_of (signal_strings samples.now weights.now) max_segments min_segment_len
+        ≡ signal_path_bytes_of (strings_in signal.now) signal.now.max_segments signal.now.min_segment_len
         (path_buffers
         (lists path_sizes.old path_losses.old path_weights.old)
         scratch.old) }
 {
-    read_i16s(samples, sample_items);
-    read_weights(weights, weight_items);
-    read_models(
-        path_sizes,
-        path_losses,
-        path_weights,
-        size_items,
-        loss_items,
-        path_weight_items,
-    );
-    let path = signal::signal_path(
+    read_items::<2, i16>(signal.samples, sample_items);
+    read_weights(signal.weights, weight_items);
+    let lent = ByteColumns {
+        sizes: path_sizes,
+        losses: path_losses,
+        weights: path_weights,
+    };
+    lent.read(size_items, loss_items, path_weight_items);
+    let found = signal::signal_path(
         sample_items,
-        max_segments,
-        min_segment_len,
+        signal.max_segments,
+        signal.min_segment_len,
         weight_items,
         size_items,
         loss_items,
         path_weight_items,
         scratch,
     );
-    encode_models(
-        path.refusal,
-        path_sizes,
-        path_losses,
-        path_weights,
-        size_items,
-        loss_items,
-        path_weight_items,
-    );
-    path
+    if found.refusal != 0 {
+        return found;
+    }
+    let path = Columns {
+        sizes: size_items,
+        losses: loss_items,
+        weights: path_weight_items,
+    };
+    write_models(path_sizes, path_losses, path_weights, &path);
+    found
 }
 
 // The path of a signal cut into segments of min_segment_len samples or more: the sizes up to the limit that can be the cheapest at some
@@ -139,32 +149,32 @@ pub fn signal_path(
         (lists path_sizes.old path_losses.old path_weights.old)
         scratch.old) }
 {
-    let spare = samples.len() % 2
-        + weights.len() % 2
-        + path_sizes.len() % 2
-        + path_losses.len() % 8
-        + path_weights.len() % 2;
-    if spare != 0 {
-        return SignalPathResult {
-            refusal: 11,
-            entries: 0,
-        };
+    let signal = ByteSignal {
+        samples,
+        max_segments,
+        min_segment_len,
+        weights,
+    };
+    let lent = ByteColumns {
+        sizes: path_sizes,
+        losses: path_losses,
+        weights: path_weights,
+    };
+    if signal.spare() + lent.spare() != 0 {
+        return SignalPathResult::from(Err(Refusal::Layout));
     }
     let mut sample_items = [0i16; READ_SAMPLES];
     let mut weight_items = [0u64; READ_WEIGHTS];
     let mut size_items = [0u64; MAX_SEGMENTS];
     let mut loss_items = [0u64; MAX_SEGMENTS];
     let mut path_weight_items = [0u64; MAX_SEGMENTS];
-    let n = smaller(samples.len() / 2, READ_SAMPLES);
-    let v = smaller(weights.len() / 2, READ_WEIGHTS);
-    let s = smaller(path_sizes.len() / 2, MAX_SEGMENTS);
-    let l = smaller(path_losses.len() / 8, MAX_SEGMENTS);
-    let w = smaller(path_weights.len() / 2, MAX_SEGMENTS);
+    let n = (samples.len() / 2).min(READ_SAMPLES);
+    let v = (weights.len() / 2).min(READ_WEIGHTS);
+    let s = (path_sizes.len() / 2).min(MAX_SEGMENTS);
+    let l = (path_losses.len() / 8).min(MAX_SEGMENTS);
+    let w = (path_weights.len() / 2).min(MAX_SEGMENTS);
     path_items(
-        samples,
-        max_segments,
-        min_segment_len,
-        weights,
+        &signal,
         path_sizes,
         path_losses,
         path_weights,
@@ -179,10 +189,7 @@ pub fn signal_path(
 
 // A split by lists with as many places as there are items to look at.
 fn split_items(
-    samples: &[u8],
-    max_segments: u64,
-    min_segment_len: u64,
-    weights: &[u8],
+    signal: &ByteSignal,
     p: u64,
     q: u64,
     starts: &mut [u8],
@@ -200,7 +207,7 @@ fn split_items(
     path_weight_items: &mut [u64],
 ) -> SplitResult
     requires { SplitFits
-        (signal_strings samples.now weights.now)
+        (strings_in signal.now)
         (split_strings starts.old levels.old (lists path_sizes.old path_losses.old path_weights.old) scratch.old)
         (length sample_items.old) (length weight_items.old)
         (length start_items.old) (length level_items.old)
@@ -210,27 +217,25 @@ fn split_items(
         starts.new levels.new
         (lists path_sizes.new path_losses.new path_weights.new)
         scratch.new)
-        ≡ split_bytes_of (signal_strings samples.now weights.now) max_segments min_segment_len p q
+        ≡ split_bytes_of (strings_in signal.now) signal.now.max_segments signal.now.min_segment_len p q
         (split_strings
         starts.old levels.old
         (lists path_sizes.old path_losses.old path_weights.old)
         scratch.old) }
 {
-    read_i16s(samples, sample_items);
-    read_weights(weights, weight_items);
+    read_items::<2, i16>(signal.samples, sample_items);
+    read_weights(signal.weights, weight_items);
     read_segments(starts, levels, start_items, level_items);
-    read_models(
-        path_sizes,
-        path_losses,
-        path_weights,
-        size_items,
-        loss_items,
-        path_weight_items,
-    );
+    let lent = ByteColumns {
+        sizes: path_sizes,
+        losses: path_losses,
+        weights: path_weights,
+    };
+    lent.read(size_items, loss_items, path_weight_items);
     let split = signal::split(
         sample_items,
-        max_segments,
-        min_segment_len,
+        signal.max_segments,
+        signal.min_segment_len,
         weight_items,
         p,
         q,
@@ -241,16 +246,16 @@ fn split_items(
         path_weight_items,
         scratch,
     );
-    encode_segments(split.refusal, starts, levels, start_items, level_items);
-    encode_models(
-        split.refusal,
-        path_sizes,
-        path_losses,
-        path_weights,
-        size_items,
-        loss_items,
-        path_weight_items,
-    );
+    if split.refusal != 0 {
+        return split;
+    }
+    write_segments(starts, levels, start_items, level_items);
+    let path = Columns {
+        sizes: size_items,
+        losses: loss_items,
+        weights: path_weight_items,
+    };
+    write_models(path_sizes, path_losses, path_weights, &path);
     split
 }
 
@@ -281,16 +286,20 @@ pub fn split(
         (lists path_sizes.old path_losses.old path_weights.old)
         scratch.old) }
 {
-    let spare = samples.len() % 2
-        + weights.len() % 2
-        + starts.len() % 2
-        + levels.len() % 2
-        + path_sizes.len() % 2
-        + path_losses.len() % 8
-        + path_weights.len() % 2;
-    if spare != 0 {
+    let signal = ByteSignal {
+        samples,
+        max_segments,
+        min_segment_len,
+        weights,
+    };
+    let lent = ByteColumns {
+        sizes: path_sizes,
+        losses: path_losses,
+        weights: path_weights,
+    };
+    if signal.spare() + starts.len() % 2 + levels.len() % 2 + lent.spare() != 0 {
         return SplitResult {
-            refusal: 11,
+            refusal: u64::from(Refusal::Layout),
             segments: 0,
             loss: 0,
             entries: 0,
@@ -303,18 +312,15 @@ pub fn split(
     let mut size_items = [0u64; MAX_SEGMENTS];
     let mut loss_items = [0u64; MAX_SEGMENTS];
     let mut path_weight_items = [0u64; MAX_SEGMENTS];
-    let n = smaller(samples.len() / 2, READ_SAMPLES);
-    let v = smaller(weights.len() / 2, READ_WEIGHTS);
-    let a = smaller(starts.len() / 2, MAX_SEGMENTS);
-    let b = smaller(levels.len() / 2, MAX_SEGMENTS);
-    let s = smaller(path_sizes.len() / 2, MAX_SEGMENTS);
-    let l = smaller(path_losses.len() / 8, MAX_SEGMENTS);
-    let w = smaller(path_weights.len() / 2, MAX_SEGMENTS);
+    let n = (samples.len() / 2).min(READ_SAMPLES);
+    let v = (weights.len() / 2).min(READ_WEIGHTS);
+    let a = (starts.len() / 2).min(MAX_SEGMENTS);
+    let b = (levels.len() / 2).min(MAX_SEGMENTS);
+    let s = (path_sizes.len() / 2).min(MAX_SEGMENTS);
+    let l = (path_losses.len() / 8).min(MAX_SEGMENTS);
+    let w = (path_weights.len() / 2).min(MAX_SEGMENTS);
     split_items(
-        samples,
-        max_segments,
-        min_segment_len,
-        weights,
+        &signal,
         p,
         q,
         starts,

@@ -130,6 +130,10 @@ module _ {A : Type 0} {C D : Coding} (P : Cutting C) (Q : Cutting D) (a : Answer
           ∙ ap (encoded_over D a b) (sym c.cut)
           ∙ whole-strings C D a call s b whole
 
+      -- So it is where the caller has looked at the refusal.
+      pub returned-as : (t : Bool) → eqb (a.number answer) 0 ≡ t → (final : D.Strings) → final ≡ Q.left t b after → outcome answer final ≡ on_bytes C D a call s b
+      returned-as t e final f = returned final (f ∙ (λ i. Q.left (sym e i) b after))
+
 -- A call that was made in other lists than the buffers, and answered as the call on the numbers does.
 module _ {A : Type 0} (C D : Coding) (a : Answers A) (call : C.Numbers → D.Numbers → Outcome A D.Numbers) (s : C.Strings) (b : D.Strings)
     (whole : C.spare s + D.spare b ≡ 0) (answer : A) where

@@ -69,6 +69,7 @@ impl Item<8> for u64 {
     ghost back = { λ v h. refl };
 }
 
+// In the calls sizes and weights are numbers of 64 bits. What does not fit two bytes loses its high ones.
 impl Item<2> for u64 {
     ghost spelt = { λ x. x };
 
@@ -86,6 +87,7 @@ impl Item<2> for u64 {
     ghost back = { λ v h. refl };
 }
 
+// In two's complement.
 impl Item<2> for i16 {
     ghost spelt = { unsigned_of };
 
@@ -130,28 +132,21 @@ pub fn write_items<const W: usize, T: Item<W>>(bytes: &mut [u8], items: &[T])
     }
 }
 
-// The names before `Item`, until least, stream and byte_streams call it.
-pub fn get_u16(bytes: &[u8], at: usize) -> u16
-    requires { at + 2 ≤ length bytes.now }
-    ensures { result ≡ item 2 bytes.now at }
+// The item of `width` bytes that starts at the byte `at`.
+pub fn get(bytes: &[u8], at: usize, width: usize) -> u64
+    requires { (width ≤ 8) × (at + width ≤ length bytes.now) }
+    ensures { result ≡ item width bytes.now at }
 {
-    u16::get(bytes, at)
+    let mut i = width;
+    let mut value: u64 = 0;
+    while 0 < i {
+        i -= 1;
+        value = value * 256 + bytes[at + i] as u64;
+    }
+    value
 }
 
-pub fn put_u16(bytes: &mut [u8], at: usize, value: u16)
-    requires { at + 2 ≤ length bytes.old }
-    ensures { bytes.new ≡ set_item 2 bytes.old at value }
-{
-    value.put(bytes, at);
-}
-
-pub fn get_u64(bytes: &[u8], at: usize) -> u64
-    requires { at + 8 ≤ length bytes.now }
-    ensures { result ≡ item 8 bytes.now at }
-{
-    Item::<8>::get(bytes, at)
-}
-
+// Puts `value` as the item of `width` bytes that starts at the byte `at`.
 pub fn put(bytes: &mut [u8], at: usize, width: usize, value: u64)
     requires { at + width ≤ length bytes.old }
     ensures { bytes.new ≡ set_item width bytes.old at value }
@@ -165,6 +160,7 @@ pub fn put(bytes: &mut [u8], at: usize, width: usize, value: u64)
     }
 }
 
+// Until byte_streams calls `read_items`.
 pub fn read_i16s(bytes: &[u8], items: &mut [i16])
     requires { 2 * length items.old ≤ length bytes.now }
     ensures { items.new

@@ -11,7 +11,7 @@ ghost use Rattle.least.specs.Inner.{Limited, LimitAt, LeftFrom, LeftAt, SeedFrom
 ghost use Rattle.least.specs.Inner.{KeepFrom, Kept, NextFrom, NextRow, RowIs, RowsFrom};
 ghost use Rattle.least.specs.Inner.{Table, TableFrom, TraceFrom, LevelsFrom};
 
-use layout::{get_u16, put_u16};
+use layout::Item;
 use segment::{CELLS, Gains, MAX_SAMPLES, prefix_squares, segment_level};
 
 // The most segments that a caller may ask for.
@@ -233,7 +233,7 @@ fn next_row(
         let found = search.pick_start(s, right);
         s = found.last.start;
         right = found.right;
-        put_u16(scratch, 2 * (base + (to - 1)), s as u16);
+        (s as u16).put(scratch, 2 * (base + (to - 1)));
         row[to] = found.last.gain;
     }
 }
@@ -343,7 +343,7 @@ pub fn trace_back(
 {
     let mut j = samples.len();
     for left in (1..segments).rev() {
-        let before = get_u16(scratch, 2 * (MAX_SAMPLES * (left - 1) + (j - 1)));
+        let before = u16::get(scratch, 2 * (MAX_SAMPLES * (left - 1) + (j - 1)));
         starts[left] = before + 1;
         j = usize::from(before);
     }

@@ -1,5 +1,7 @@
 -- `byte_signals::split` meets its contract: refused under 11, or the call by lists of as many items as are looked at.
-use mathlib.Core.Path.{◌≡◌, refl, sym}
+use mathlib.Core.Path.{◌≡◌, refl, ap, sym, ◌∙◌}
+use Rattle.coding.specs.Coding.{outcome}
+use Rattle.signal.specs.declared.SplitResult.{SplitResult}
 use Prim.Native.Nat.{ℕ, ◌+◌}
 use native.Mathlib.Omega.{arith}
 use lib.IntN.{ℤ, pos}
@@ -12,72 +14,69 @@ use Rattle.byte_signals.specs.Signals.{signal_strings, signal_coding, split_stri
 use Rattle.byte_signals.specs.Inner.{read_samples, read_weights}
 use Rattle.byte_signals.proofs.split.Goals as goal
 
--- The seven remainders that the code adds up, as those of what is read and those of the buffers.
-none_over : (a b c d e f g : ℕ) → a + b + c + d + e + f + g ≡ 0 → a + b + (c + (d + (e + (f + g) + 0))) ≡ 0
-none_over a b c d e f g h = omega arith
-
-pub returns-then-spare-ne0 : goal.returns-then-spare-ne0
-returns-then-spare-ne0 c =
+pub returns-then-spare-starts-ne0 : goal.returns-then-spare-starts-ne0
+returns-then-spare-starts-ne0 c =
     let a = c.args in
     let strings = lists a.path_sizes.now a.path_losses.now a.path_weights.now in
     let input = signal_strings a.samples.now a.weights.now in
     let lent = split_strings a.starts.now a.levels.now strings a.scratch.now in
     let call = split_call a.max_segments a.min_segment_len a.p a.q in
-    eleven signal_coding split_coding split_answers call input lent (λ e. c.if-spare-ne0.true (omega arith))
+    ap (λ (n : ℕ). outcome {A = SplitResult} (record { refusal = n; segments = 0; loss = 0; entries = 0 }) lent) c.from.ensures
+    ∙ eleven signal_coding split_coding split_answers call input lent (λ e. c.if-spare-starts-ne0.true (omega (arith, c.spare.ensures, c.spare-2.ensures)))
 
 pub slice_bounds-sample_items-end : goal.slice_bounds-sample_items-end
-slice_bounds-sample_items-end c = omega (arith, c.smaller-n.ensures)
+slice_bounds-sample_items-end c = omega (arith, c.min-n.ensures)
 
 pub slice_bounds-split_items-end : goal.slice_bounds-split_items-end
-slice_bounds-split_items-end c = sym (front_length {A = ℤ} (pos 0) read_samples _ (omega (arith, c.smaller-n.ensures)))
+slice_bounds-split_items-end c = sym (front_length {A = ℤ} (pos 0) read_samples _ (omega (arith, c.min-n.ensures)))
 
 pub slice_bounds-weight_items-end : goal.slice_bounds-weight_items-end
-slice_bounds-weight_items-end c = omega (arith, c.smaller-v.ensures)
+slice_bounds-weight_items-end c = omega (arith, c.min-v.ensures)
 
 pub slice_bounds-split_items-end-2 : goal.slice_bounds-split_items-end-2
-slice_bounds-split_items-end-2 c = sym (front_length {A = ℕ} 0 read_weights _ (omega (arith, c.smaller-v.ensures)))
+slice_bounds-split_items-end-2 c = sym (front_length {A = ℕ} 0 read_weights _ (omega (arith, c.min-v.ensures)))
 
 pub slice_bounds-start_items-end : goal.slice_bounds-start_items-end
-slice_bounds-start_items-end c = omega (arith, c.smaller-a.ensures)
+slice_bounds-start_items-end c = omega (arith, c.min-a.ensures)
 
 pub slice_bounds-split_items-end-3 : goal.slice_bounds-split_items-end-3
-slice_bounds-split_items-end-3 c = sym (front_length {A = ℕ} 0 max_segments _ (omega (arith, c.smaller-a.ensures)))
+slice_bounds-split_items-end-3 c = sym (front_length {A = ℕ} 0 max_segments _ (omega (arith, c.min-a.ensures)))
 
 pub slice_bounds-level_items-end : goal.slice_bounds-level_items-end
-slice_bounds-level_items-end c = omega (arith, c.smaller-b.ensures)
+slice_bounds-level_items-end c = omega (arith, c.min-b.ensures)
 
 pub slice_bounds-split_items-end-4 : goal.slice_bounds-split_items-end-4
-slice_bounds-split_items-end-4 c = sym (front_length {A = ℤ} (pos 0) max_segments _ (omega (arith, c.smaller-b.ensures)))
+slice_bounds-split_items-end-4 c = sym (front_length {A = ℤ} (pos 0) max_segments _ (omega (arith, c.min-b.ensures)))
 
 pub slice_bounds-size_items-end : goal.slice_bounds-size_items-end
-slice_bounds-size_items-end c = omega (arith, c.smaller-s.ensures)
+slice_bounds-size_items-end c = omega (arith, c.min-s.ensures)
 
 pub slice_bounds-split_items-end-5 : goal.slice_bounds-split_items-end-5
-slice_bounds-split_items-end-5 c = sym (front_length {A = ℕ} 0 max_segments _ (omega (arith, c.smaller-s.ensures)))
+slice_bounds-split_items-end-5 c = sym (front_length {A = ℕ} 0 max_segments _ (omega (arith, c.min-s.ensures)))
 
 pub slice_bounds-loss_items-end : goal.slice_bounds-loss_items-end
-slice_bounds-loss_items-end c = omega (arith, c.smaller-l.ensures)
+slice_bounds-loss_items-end c = omega (arith, c.min-l.ensures)
 
 pub slice_bounds-split_items-end-6 : goal.slice_bounds-split_items-end-6
-slice_bounds-split_items-end-6 c = sym (front_length {A = ℕ} 0 max_segments _ (omega (arith, c.smaller-l.ensures)))
+slice_bounds-split_items-end-6 c = sym (front_length {A = ℕ} 0 max_segments _ (omega (arith, c.min-l.ensures)))
 
 pub slice_bounds-path_weight_items-end : goal.slice_bounds-path_weight_items-end
-slice_bounds-path_weight_items-end c = omega (arith, c.smaller-w.ensures)
+slice_bounds-path_weight_items-end c = omega (arith, c.min-w.ensures)
 
 pub slice_bounds-split_items-end-7 : goal.slice_bounds-split_items-end-7
-slice_bounds-split_items-end-7 c = sym (front_length {A = ℕ} 0 max_segments _ (omega (arith, c.smaller-w.ensures)))
+slice_bounds-split_items-end-7 c = sym (front_length {A = ℕ} 0 max_segments _ (omega (arith, c.min-w.ensures)))
 
 pub split_items-requires : goal.split_items-requires
 split_items-requires c =
     let a = c.args in
     let strings = lists a.path_sizes.now a.path_losses.now a.path_weights.now in
     record {
-      whole = none_over _ _ _ _ _ _ _ c.if-spare-ne0.false;
+      whole = omega (arith, c.spare.ensures, c.spare-2.ensures, c.if-spare-starts-ne0.false);
       input = record {
-        samples_fit = front_fits {A = ℤ} (pos 0) read_samples _ _ c.smaller-n.ensures refl (omega arith);
-        weights_fit = front_fits {A = ℕ} 0 read_weights _ _ c.smaller-v.ensures refl (omega arith);
+        samples_fit = front_fits {A = ℤ} (pos 0) read_samples _ _ c.min-n.ensures refl (omega arith);
+        weights_fit = front_fits {A = ℕ} 0 read_weights _ _ c.min-v.ensures refl (omega arith);
       };
-      starts_fit = front_fits {A = ℕ} 0 max_segments _ _ c.smaller-a.ensures refl (omega arith);
-      levels_fit = front_fits {A = ℤ} (pos 0) max_segments _ _ c.smaller-b.ensures refl (omega arith);
-      fit = fronts-fit strings max_segments max_segments c.smaller-s.ensures c.smaller-l.ensures c.smaller-w.ensures refl (omega arith);
+      starts_fit = front_fits {A = ℕ} 0 max_segments _ _ c.min-a.ensures refl (omega arith);
+      levels_fit = front_fits {A = ℤ} (pos 0) max_segments _ _ c.min-b.ensures refl (omega arith);
+      fit = fronts-fit strings max_segments max_segments c.min-s.ensures c.min-l.ensures c.min-w.ensures refl (omega arith);
     }

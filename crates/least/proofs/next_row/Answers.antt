@@ -11,7 +11,7 @@ use Rattle.least.specs.Inner.{start_place, GainOf, Picked, Found}
 use Rattle.least.proofs.LeastLosses.{last_start-bounds}
 use Rattle.least.proofs.next_row.Invariants.{Rows}
 use Rattle.least.proofs.next_row.Goals as goal
-use Rattle.least.proofs.next_row.Goals.{After-put_u16}
+use Rattle.least.proofs.next_row.Goals.{After-put}
 
 -- A start that a search finds stands within its bounds.
 picked-within : {xs : List ℤ} {d m to gain start : ℕ} → Picked xs d m to gain start → suc (suc m) * d ≤ to → (suc m * d ≤ start) × (start + d ≤ to)
@@ -41,20 +41,20 @@ rows_step {xs} {d} {m} {to} {gain = gain} {start} {row = row} {scratch = scratch
     }
 
 -- After a turn.
-turn : (c : After-put_u16) → Rows c.args.signal.now.gains.samples.now c.args.signal.now.min_segment_len c.args.m (c.loop-to.to + 1) c.pick_start-found.result.last.start c.pick_start-found.result.right (set c.loop-to.row c.loop-to.to c.pick_start-found.result.last.gain) c.args.scratch.now c.put_u16.new.bytes
+turn : (c : After-put) → Rows c.args.signal.now.gains.samples.now c.args.signal.now.min_segment_len c.args.m (c.loop-to.to + 1) c.pick_start-found.result.last.start c.pick_start-found.result.right (set c.loop-to.row c.loop-to.to c.pick_start-found.result.last.gain) c.args.scratch.now c.put.new.bytes
 turn c =
-    rw c.put_u16.ensures
+    rw c.put.ensures
     (rows_step c.args.signal.now.one (omega arith) c.requires.few (omega arith) (omega arith) (omega arith) c.loop-to.invariant c.pick_start-found.ensures)
 
 pub overflow_cast-s : goal.overflow_cast-s
 overflow_cast-s c = record { fits = omega (arith, (picked-within c.pick_start-found.ensures.picked c.loop-to.invariant.low).1) }
 
 pub loop-to-preserved : goal.loop-to-preserved
-loop-to-preserved c = turn (goal.at.loop-to-preserved c).After-put_u16
+loop-to-preserved c = turn (goal.at.loop-to-preserved c).After-put
 
 pub returns-2 : goal.returns-2
 returns-2 c =
-    let r = turn (goal.at.returns-2 c).After-put_u16 in
+    let r = turn (goal.at.returns-2 c).After-put in
     record {
       row_is = record { is = λ t l u. r.done t (omega arith) l };
       starts_are = record { are = λ t l u. r.starts t l (omega arith) };
