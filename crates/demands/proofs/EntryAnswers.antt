@@ -14,7 +14,7 @@ use Rattle.hull.specs.History.{State, after_call, models_of, begin, appends}
 use Rattle.hull.specs.Claims.{PathDemand, NeverEight, SelectsSmallest, Between, EnginePath, AfterEveryHistory}
 use Rattle.hull.proofs.Histories.{history-claim, never-eight-claim, history-engine}
 use Rattle.models.specs.Entries.{lists_in}
-use Rattle.models.specs.declared.Entry.{Entry}
+use Rattle.path.specs.declared.storage.Entry.{Entry}
 use Rattle.demands.specs.EntryHistories.{EntryState, numbers_of, EntryStart, start_of}
 use Rattle.demands.specs.EntryAnswers.{empty_entries, after_entry_call, BegunBy, ReachedBy, AfterEveryAnsweredHistory, AnsweredHistoryClaim, EntryNeverEight, EntryNeverEightClaim, EntryEnginePath, EntryEngineClaim, built_entries, EntryOriginClaim}
 use Rattle.demands.specs.Origins.{Origin, state_of}

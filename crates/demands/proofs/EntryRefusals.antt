@@ -16,7 +16,7 @@ use Rattle.select.specs.declared.SelectResult.{SelectResult}
 use Rattle.hull.specs.Refusals.{RefusesByChecks}
 use Rattle.hull.proofs.Orders.{path-refusals}
 use Rattle.models.specs.Entries.{lists_in}
-use Rattle.models.specs.declared.Entry.{Entry}
+use Rattle.path.specs.declared.storage.Entry.{Entry}
 use Rattle.demands.specs.EntryRefusals.{EntryRefusal, EntryRefusals}
 use Rattle.demands.proofs.EntryHistories.{entries_fixed}
 

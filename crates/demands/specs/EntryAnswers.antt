@@ -14,7 +14,7 @@ use Rattle.select.specs.declared.BreakpointsResult.{BreakpointsResult}
 use Rattle.hull.specs.History.{models_of, path_at}
 use Rattle.hull.specs.Claims.{PathDemand, PathOfWinners, Falling, SelectsSmallest, Between}
 use Rattle.models.specs.Entries.{lists_in}
-use Rattle.models.specs.declared.Entry.{Entry}
+use Rattle.path.specs.declared.storage.Entry.{Entry}
 use Rattle.demands.specs.EntryHistories.{EntryState, numbers_of, EntryStart, no_entries, built_from}
 
 -- The contract of `append_entries` allows the answer r and the list y after an append of m to the first n entries of a list.

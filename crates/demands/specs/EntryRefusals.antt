@@ -13,7 +13,7 @@ use Rattle.select.specs.declared.SelectResult.{SelectResult}
 use Rattle.select.specs.declared.BreakpointsResult.{BreakpointsResult}
 use Rattle.hull.specs.Refusals.{RefusesByChecks}
 use Rattle.models.specs.Entries.{lists_in}
-use Rattle.models.specs.declared.Entry.{Entry}
+use Rattle.path.specs.declared.storage.Entry.{Entry}
 use Rattle.demands.specs.EntryAnswers.{AppendAllows, BuildAllows, SelectAllows, BreakpointsAllows}
 
 -- A call that is lent a list, answers r and leaves the list y answers its checks in order, and a refused one gives its number, zeros, and

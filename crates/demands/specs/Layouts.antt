@@ -6,7 +6,7 @@ use Rattle.coding.specs.Coding.{unsigneds, signeds}
 use Rattle.coding.specs.Models.{models_coding}
 use Rattle.path.specs.Model.{Lists}
 use Rattle.models.specs.Entries.{lists_in}
-use Rattle.models.specs.declared.Entry.{Entry}
+use Rattle.path.specs.declared.storage.Entry.{Entry}
 use Rattle.signal.specs.SignalPath.{PathBuffers}
 use Rattle.signal.specs.Split.{SplitBuffers}
 use Rattle.stream.specs.Table.{value}

@@ -4,7 +4,7 @@ use Rattle.path.specs.Model.{Lists}
 use Rattle.select.specs.Penalty.{valid_penalty}
 use Rattle.select.specs.Select.{select_of}
 use Rattle.select.specs.declared.SelectResult.{SelectResult}
-use Rattle.models.specs.declared.Entry.{Entry}
+use Rattle.path.specs.declared.storage.Entry.{Entry}
 use Rattle.signal.specs.Split.{SplitBuffers, split_of}
 use Rattle.stream.specs.SplitFrom.{SegmentBuffers, split_from_of}
 use Rattle.byte_paths.specs.Paths.{select_bytes_of}

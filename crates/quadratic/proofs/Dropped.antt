@@ -6,11 +6,11 @@ use mathlib.Core.List.{List, ◌∷◌}
 use Prim.Native.Nat.{ℕ, zero, suc, ◌+◌, ◌<◌}
 use native.Mathlib.Numerals.{add-one}
 use native.Mathlib.Omega.{arith}
-use lib.ListN.{take}
+use lib.ListN.{length, take}
 use Rattle.path.specs.Model.{Model, Lists, model_at, path_of}
 use Rattle.path.specs.Update.{passed_over, extended, tried}
 use Rattle.path.specs.Refusal.{refusal_of}
-use Rattle.path.specs.Inner.{Held, first_places}
+use Rattle.path.specs.Inner.{Held}
 use Rattle.path.proofs.Order.{places-fewer, Passes, model-passes, model-accepted, same-checks, same-passed-over}
 use Rattle.path.proofs.Held.{set_model, held_none, held-skip, held-put}
 use Rattle.build.specs.Build.{built, list_checks}
@@ -62,13 +62,13 @@ module _ (a : Lists) where
         let put = held-put (triedTo i) t₀ t n i h (places-fewer t₀ all (i + 1) ok.fits (omega arith)) (model_at a i) (tried-passes all i ok.good turn) o in
         rw (is, add-one i, o) (rw (add-one i) at put)
 
--- One turn in the lists that hold the models: that of place i is looked at where it stands.
-module _ {t₀ t : Lists} {count n i : ℕ} (h : Held (triedTo (first_places count t₀) i) t₀ t n i) (turn : i < count) {m : Model} (here : m ≡ model_at t i) where
-  is-next : m ≡ model_at (first_places count t₀) i
-  is-next = here ∙ still-model (triedTo (first_places count t₀) i) t₀ t n i count h turn
+-- One turn in the lists that the models fill: that of place i is looked at where it stands.
+module _ {t₀ t : Lists} {n i : ℕ} (h : Held (triedTo t₀ i) t₀ t n i) {m : Model} (here : m ≡ model_at t i) where
+  is-next : m ≡ model_at t₀ i
+  is-next = here ∙ still-model (triedTo t₀ i) t₀ t n i h
 
-  pub turn-dropped : passed_over (path_of t n) m ≡ true → Held (triedTo (first_places count t₀) (i + 1)) t₀ t n (i + 1)
-  turn-dropped = dropped-one (first_places count t₀) t₀ t n i h m is-next
+  pub turn-dropped : passed_over (path_of t n) m ≡ true → Held (triedTo t₀ (i + 1)) t₀ t n (i + 1)
+  turn-dropped = dropped-one t₀ t₀ t n i h m is-next
 
-  pub turn-kept : Fillable t₀ count → passed_over (path_of t n) m ≡ false → Held (triedTo (first_places count t₀) (i + 1)) t₀ (set_model t n m) (n + 1) (i + 1)
-  turn-kept ok = kept-one (first_places count t₀) t₀ t n i h m is-next ok turn
+  pub turn-kept : Fillable t₀ → i < length t₀.sizes → passed_over (path_of t n) m ≡ false → Held (triedTo t₀ (i + 1)) t₀ (set_model t n m) (n + 1) (i + 1)
+  turn-kept may turn = kept-one t₀ t₀ t n i h m is-next may.ok turn

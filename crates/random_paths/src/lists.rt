@@ -80,8 +80,7 @@ fn builds_as_before(models: &[Model], given: Columns<'_>) -> bool {
 // The distances of some values, each from the next one, and then marks.
 fn gaps(values: &[u64]) -> [u64; 12] {
     let mut made = [MARK; 12];
-    let pairs = values.iter().zip(values.iter().skip(1));
-    for (gap, (here, after)) in made.iter_mut().zip(pairs) {
+    for (gap, [here, after]) in made.iter_mut().zip(values.array_windows::<2>()) {
         *gap = here.abs_diff(*after);
     }
     made

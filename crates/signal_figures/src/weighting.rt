@@ -1,53 +1,51 @@
 // Weights that random calls are lent, what is right for them, and damaged ones. Nothing here is taken from the calls that are tested.
 
-use crate::calls::Arguments;
-use testing::old::list::{at, count_up, last, put};
-use testing::old::number::{minus, plus};
-use testing::old::random::{below, next};
+use path::refusal::Refusal;
+use std::array;
+use testing::lists::MARK;
+use testing::random::next;
 
-// The number of kinds.
-const KINDS: u64 = 5;
+// By how much weights rise: by 1, so that each equals its size; by little; by much; and by 1 or by much. 32 weights stay in range.
+#[derive(Clone, Copy)]
+enum Rise {
+    One,
+    Little,
+    Much,
+    OneOrMuch,
+}
 
-// By how much a weight rises, from a random number: by 1, so that it equals its size; by little; by much; and by 1 or by much. 32
-// weights stay in range.
-fn rise(kind: u64, x: u64) -> u64 {
-    match kind {
-        1 => 1,
-        2 => x % 3 + 1,
-        3 => x % 2000 + 1,
-        _ => x % 2 * 2046 + 1,
+impl Rise {
+    // By how much a weight rises, from a random number.
+    fn draw(self, x: u64) -> u64 {
+        match self {
+            Rise::One => 1,
+            Rise::Little => x % 3 + 1,
+            Rise::Much => x % 2000 + 1,
+            Rise::OneOrMuch => x % 2 * 2046 + 1,
+        }
     }
 }
 
-// Draws weights of a kind.
-fn draw(kind: u64, seed: u64) -> [u64; 40] {
-    let mut weights = [0u64; 40];
-    let mut weight = 0;
-    let mut x = seed;
-    for i in 0..40 {
-        x = next(x);
-        weight = plus(weight, rise(kind, x));
-        weights[i] = weight;
-    }
-    weights
+// The kinds of weights. One is none.
+const KINDS: [Option<Rise>; 5] = [
+    None,
+    Some(Rise::One),
+    Some(Rise::Little),
+    Some(Rise::Much),
+    Some(Rise::OneOrMuch),
+];
+
+// Weights, of which the first are lent.
+// Stays: a buffer with a number beside it, since there is no heap (project rule); `lent` gives the slice.
+#[derive(Clone, Copy)]
+pub struct Weights {
+    values: [u64; 40],
+    lent: usize,
 }
 
-// What a call is given with weights of a random kind, as many as its limit. One kind is none.
-pub fn weigh(given: Arguments, x: u64) -> Arguments {
-    let kind = x % KINDS;
-    if kind == 0 {
-        return given;
-    }
-    given.with_weights(draw(kind, next(x)), given.limit as usize)
-}
-
-// The weight of each size.
-pub fn right(given: Arguments) -> [u64; 40] {
-    let mut weights = given.weights;
-    if given.weight_count == 0 {
-        count_up(&mut weights);
-    }
-    weights
+// The weights 1, 2, 3 and so on, which equal the sizes.
+pub fn sizes() -> [u64; 40] {
+    array::from_fn(|i| i as u64 + 1)
 }
 
 // What stands in place of a weight that comes after another, from a random number: one out of range, one not above the other, or the
@@ -57,54 +55,72 @@ fn damaged(before: u64, weight: u64, x: u64) -> u64 {
         0 => 0,
         1 => 65536,
         2 => before,
-        3 => minus(before, 1),
+        3 => before.saturating_sub(1),
         _ => weight,
     }
 }
 
-// What a call is given with one weight damaged, and at times with one more of them or one fewer.
-pub fn damage(given: Arguments, x: u64) -> Arguments {
-    let y = next(x);
-    let i = below(y, given.limit) as usize;
-    let mut weights = given.weights;
-    let value = damaged(last(&weights, i, 0), at(&weights, i), x);
-    put(&mut weights, i, value);
-    let weight_count = minus(plus(given.weight_count as u64, y / 64 % 3), 1);
-    given.with_weights(weights, weight_count as usize)
-}
-
-// Whether the first n weights are in range.
-fn in_range(weights: &[u64], n: usize) -> bool {
-    for i in 0..n {
-        if at(weights, i) < 1 || 65535 < at(weights, i) {
-            return false;
+impl Weights {
+    // Weights of a random kind, as many as a limit.
+    pub fn draw(limit: usize, x: u64) -> Self {
+        let mut made = Weights {
+            values: [MARK; 40],
+            lent: 0,
+        };
+        if let Some(rise) = KINDS[(x % 5) as usize] {
+            let mut y = next(x);
+            let mut weight = 0u64;
+            for value in made.values.iter_mut() {
+                y = next(y);
+                weight = weight.saturating_add(rise.draw(y));
+                *value = weight;
+            }
+            made.lent = limit;
         }
+        made
     }
-    true
+
+    // Those that are lent, where there are so many.
+    pub fn lent(&self) -> Option<&[u64]> {
+        self.values.get(..self.lent)
+    }
+
+    // The weight of each size.
+    pub fn right(&self) -> [u64; 40] {
+        if self.lent == 0 { sizes() } else { self.values }
+    }
+
+    // The same with one of as many weights as a limit damaged, and at times with one more of them lent or one fewer.
+    pub fn damage(&self, limit: usize, x: u64) -> Option<Self> {
+        let y = next(x);
+        let i = (y as usize).checked_rem(limit)?;
+        let before = match i.checked_sub(1) {
+            Some(last) => *self.values.get(last)?,
+            None => 0,
+        };
+        let mut made = *self;
+        let place = made.values.get_mut(i)?;
+        *place = damaged(before, *place, x);
+        made.lent = self
+            .lent
+            .saturating_add((y / 64 % 3) as usize)
+            .saturating_sub(1);
+        Some(made)
+    }
 }
 
-// Whether each of the first n weights is above the one before it.
-fn rising(weights: &[u64], n: usize) -> bool {
-    for i in 0..n {
-        if at(weights, i) <= last(weights, i, 0) {
-            return false;
-        }
+// The refusal that is due to the weights of a call with a limit.
+pub fn check(weights: &[u64], limit: usize) -> Result<(), Refusal> {
+    if !weights.iter().all(|weight| (1..65536).contains(weight)) {
+        return Err(Refusal::Range);
     }
-    true
-}
-
-// The refusal that is due to the weights of a call: 5, 14 or 0.
-pub fn refusal(given: Arguments) -> u64 {
-    let weights = given.weights;
-    if !in_range(&weights, given.weight_count) {
-        return 5;
+    if weights.is_empty() {
+        return Ok(());
     }
-    if given.weight_count == 0 {
-        return 0;
-    }
-    if given.weight_count as u64 != given.limit || !rising(&weights, given.weight_count) {
-        14
+    let rising = weights.iter().zip(weights.iter().skip(1)).all(|(a, b)| a < b);
+    if weights.len() == limit && rising {
+        Ok(())
     } else {
-        0
+        Err(Refusal::Weight)
     }
 }

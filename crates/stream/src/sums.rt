@@ -50,7 +50,7 @@ impl<'a> Sums<'a> {
         let mut i = self.to - 1;
         let mut best = self.sum_at(i);
 
-        // Stays: an iterator of eight places a turn has no way to say where the rest begins, which `least` goes on from.
+        // Stays: the new form is no plainer, as `(..).rev().step_by(8)` would not say where the rest begins, which `least` goes on from.
         while self.k + 8 < i {
             if best <= self.owns[i - 1] {
                 return Searched {

@@ -3,6 +3,7 @@
 use path::PathResult;
 use std::fmt;
 
+// Stays: the refusal is a number with the rest beside it, as the C interface answers it, since that is what is compared and printed.
 #[derive(Clone, Copy, PartialEq, Eq)]
 pub struct Answer {
     pub refusal: u64,

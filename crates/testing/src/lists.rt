@@ -4,6 +4,7 @@ use path::storage::Columns;
 use std::{array, fmt};
 
 // What the buffers of a test hold before a call, which is no size, no loss and no weight.
+// Stays: the C interface is lent plain numbers, so a place that a call left alone is told by a number that no call writes.
 pub const MARK: u64 = 99999999999999;
 
 // A size with its loss and its weight.

@@ -137,8 +137,7 @@ impl<const ROWS: usize> Cells<ROWS> {
             *ends.get_mut(k)? = last.start;
         }
         let mut made = Segmentation::none();
-        for pair in ends.get(..=segments)?.windows(2) {
-            let (from, to) = (*pair.first()?, *pair.last()?);
+        for &[from, to] in ends.get(..=segments)?.array_windows::<2>() {
             let level = lower(sums.level(from, to)?);
             made.push(from, level, loss_at(samples, from, to, level)?)?;
         }

@@ -47,12 +47,11 @@ pub fn loss_at(samples: &[i16], from: usize, to: usize, level: i16) -> Option<u6
 // Writes the models of the sizes 1, 2 and so on, with their losses and weights. There is none where one of them lacks its loss or its
 // weight.
 pub fn put_sizes(losses: &[Option<u64>], weights: &[u64], models: &mut [Model]) -> Option<()> {
-    for (i, model) in models.iter_mut().enumerate() {
-        *model = Model {
-            size: (i as u64).checked_add(1)?,
-            loss: (*losses.get(i)?)?,
-            weight: *weights.get(i)?,
-        };
+    if losses.len() < models.len() || weights.len() < models.len() {
+        return None;
+    }
+    for (((model, loss), weight), size) in models.iter_mut().zip(losses).zip(weights).zip(1u64..) {
+        *model = Model::new(size, (*loss)?, *weight);
     }
     Some(())
 }

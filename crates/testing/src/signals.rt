@@ -125,9 +125,9 @@ impl Kind {
     pub fn draw(self, seed: u64, samples: &mut [i16]) {
         let mut x = seed;
         let mut before = 32768;
-        for (i, sample) in samples.iter_mut().enumerate() {
+        for (sample, i) in samples.iter_mut().zip(0u64..) {
             x = next(x);
-            before = self.sample(i as u64, x, before);
+            before = self.sample(i, x, before);
             *sample = lower(before);
         }
     }

@@ -14,12 +14,8 @@ pub record Put (xs : List ℤ) (starts : List ℕ) (d k : ℕ) (levels₀ levels
   pub high : left ≤ k
   pub long : left * d ≤ to
   pub short : to ≤ length xs
-  pub len : length levels ≡ length levels₀
   pub given : take left starts ≡ starts_of (front xs (least xs d) d left to)
   pub is : levels_of (front xs (least xs d) d left to) ++ drop left levels ≡ levels_of (chosen_of xs d k) ++ drop k levels₀
 
 abbrev pub invariant-loop-left : goal.invariant-loop-left
 invariant-loop-left l = Put l.samples l.starts l.min_segment_len l.segments l.initial.levels l.levels l.left l.to
-
-abbrev pub decreases-loop-left : goal.decreases-loop-left
-decreases-loop-left l = l.left

@@ -16,11 +16,7 @@ pub record Traced (xs : List ℤ) (d k : ℕ) (starts₀ starts : List ℕ) (lef
   pub long : left ≤ j
   pub room : left * d ≤ j
   pub short : j ≤ length xs
-  pub len : length starts ≡ length starts₀
   pub is : starts_of (front xs (least xs d) d left j) ++ drop left starts ≡ starts_of (chosen_of xs d k) ++ drop k starts₀
 
 abbrev pub invariant-loop-left : goal.invariant-loop-left
 invariant-loop-left l = Traced l.samples l.min_segment_len l.segments l.initial.starts l.starts l.left l.j
-
-abbrev pub decreases-loop-left : goal.decreases-loop-left
-decreases-loop-left l = l.left
