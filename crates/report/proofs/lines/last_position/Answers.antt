@@ -1,1 +1,0 @@
--- `report::lines::last_position` looks whether another segment follows: then its start is one more than the last position.
