@@ -133,30 +133,29 @@ pub fn write_items<const W: usize, T: Item<W>>(bytes: &mut [u8], items: &[T])
 }
 
 // The item of `width` bytes that starts at the byte `at`.
+// Stays: the width as an argument, because this promise holds for every width up to eight, and README names the crate. A width that
+// occurs has its `Item`.
 pub fn get(bytes: &[u8], at: usize, width: usize) -> u64
     requires { (width ≤ 8) × (at + width ≤ length bytes.now) }
     ensures { result ≡ item width bytes.now at }
 {
-    let mut i = width;
     let mut value: u64 = 0;
-    while 0 < i {
-        i -= 1;
-        value = value * 256 + bytes[at + i] as u64;
+    for i in (0..width).rev() {
+        value = value * 256 + u64::from(bytes[at + i]);
     }
     value
 }
 
 // Puts `value` as the item of `width` bytes that starts at the byte `at`.
+// Stays: as `get`.
 pub fn put(bytes: &mut [u8], at: usize, width: usize, value: u64)
     requires { at + width ≤ length bytes.old }
     ensures { bytes.new ≡ set_item width bytes.old at value }
 {
-    let mut i = 0;
     let mut rest = value;
-    while i < width {
+    for i in 0..width {
         bytes[at + i] = (rest % 256) as u8;
-        rest = rest / 256;
-        i += 1;
+        rest /= 256;
     }
 }
 

@@ -43,14 +43,14 @@ loop-i-init c = read-start c.args.bytes.now c.args.at c.args.width
 pub overflow_mul-value : goal.overflow_mul-value
 overflow_mul-value c = record { fits = omega (arith, small c.args.width c.loop-i.i c.loop-i.value (omega arith) (omega arith) c.loop-i.invariant.low) }
 
-pub overflow_cast-value : goal.overflow_cast-value
-overflow_cast-value c = omega (arith, c.shared_slice_known-1.given (c.args.at + (c.loop-i.i - 1)))
-
-pub overflow_add-value-in-loop-i : goal.overflow_add-value-in-loop-i
-overflow_add-value-in-loop-i c = record { fits = omega (arith, c.shared_slice_known-1.given (c.args.at + (c.loop-i.i - 1)), small c.args.width c.loop-i.i c.loop-i.value (omega arith) (omega arith) c.loop-i.invariant.low) }
+pub overflow_add-value : goal.overflow_add-value
+overflow_add-value c = record { fits = omega (arith, c.from.ensures, c.type_inv.bytes (c.args.at + (c.loop-i.i - 1)), small c.args.width c.loop-i.i c.loop-i.value (omega arith) (omega arith) c.loop-i.invariant.low) }
 
 pub loop-i-preserved : goal.loop-i-preserved
-loop-i-preserved c = let a = c.args in let l = c.loop-i in read_step a.bytes.now a.at a.width l.i l.value l.invariant (omega arith) (omega (arith, c.shared_slice_known-1.given (c.args.at + (c.loop-i.i - 1))))
+loop-i-preserved c =
+    let a = c.args in
+    let l = c.loop-i in
+    rw c.from.ensures (read_step a.bytes.now a.at a.width l.i l.value l.invariant (omega arith) (omega (arith, c.type_inv.bytes (a.at + (l.i - 1)))))
 
 pub returns : goal.returns
 returns c = let a = c.args in let l = c.loop-i in read-end a.bytes.now a.at a.width l.i l.value l.invariant (omega arith)

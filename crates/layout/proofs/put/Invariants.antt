@@ -13,6 +13,3 @@ pub record Written (w₀ w : List ℕ) (at k v i x : ℕ) : Type 0 where
 
 abbrev pub invariant-loop-i : goal.invariant-loop-i
 invariant-loop-i l = Written l.initial.bytes l.bytes l.at l.width l.value l.i l.rest
-
-abbrev pub decreases-loop-i : goal.decreases-loop-i
-decreases-loop-i l = l.width - l.i
