@@ -6,16 +6,20 @@
 ghost use Rattle.std.specs.Prelude.{◌≡◌, ◌+◌, length};
 ghost use Rattle.coding.specs.Coding.{outcome};
 ghost use Rattle.coding.specs.Models.{models_coding};
+ghost use Rattle.coding.specs.Inner.{strings_of};
 ghost use Rattle.path.specs.Model.{model, lists};
-ghost use Rattle.byte_paths.specs.Paths.{append_bytes_of, build_bytes_by, select_bytes_of, fractions, fractions_coding, breakpoints_bytes_of};
-ghost use Rattle.byte_paths.specs.Inner.{BuildFits, append_encoded, breakpoints_encoded};
-ghost use Rattle.select.specs.Select.{select_refused};
+ghost use Rattle.path.specs.Update.{Fraction};
+ghost use Rattle.path.specs.Inner.{model_of, answer_of};
+ghost use Rattle.select.specs.Inner.{listed_as};
+ghost use Rattle.byte_paths.specs.Paths.{append_bytes_of, build_bytes_with, select_bytes_of, fractions, fractions_coding, breakpoints_bytes_of};
+ghost use Rattle.byte_paths.specs.Inner.{BuildFits, append_encoded, breakpoints_encoded, ListableIn, WrittenIn};
 
-pub mod entries;
-
-use coding::{encode_models, read_models, store_item};
-use least::smaller;
-use path::{MAX_MODELS, PathResult, tally};
+use build::Method;
+use coding::{ByteColumns, store_item, write_models};
+use layout::Item;
+use path::refusal::Refusal;
+use path::storage::{Columns, Entry};
+use path::{Kept, MAX_MODELS, PathResult};
 use select::{BreakpointsResult, SelectResult};
 
 // The most models of a build that are read: one more than there may be, so that too many stay too many.
@@ -27,40 +31,24 @@ fn append_whole(
     losses: &mut [u8],
     weights: &mut [u8],
     entries: usize,
-    size: u64,
-    loss: u64,
-    weight: u64,
-) -> PathResult
+    new: Entry,
+) -> Result<Kept, Refusal>
     requires { models_coding.spare (lists sizes.old losses.old weights.old) ≡ 0 }
-    ensures { outcome result (lists sizes.new losses.new weights.new)
-        ≡ append_encoded (lists sizes.old losses.old weights.old) entries (model size loss weight) }
+    ensures { outcome (answer_of result) (lists sizes.new losses.new weights.new)
+        ≡ append_encoded (lists sizes.old losses.old weights.old) entries (model_of new) }
 {
-    let refusal = entries::input_refusal(sizes, losses, weights, entries, size, loss, weight);
-    if refusal != 0 {
-        return path::refuse(refusal);
+    let models = ByteColumns {
+        sizes,
+        losses,
+        weights,
+    };
+    let judged = path::judge(&models, entries, new)?;
+    if let Some(kept) = judged.after {
+        store_item::<2, u64>(sizes, kept, entries, new.size);
+        store_item::<8, u64>(losses, kept, entries, new.loss);
+        store_item::<2, u64>(weights, kept, entries, new.weight);
     }
-    if entries::passed_over(losses, entries, loss) {
-        return PathResult {
-            refusal: refusal,
-            entries: entries,
-            tests: tally::none(),
-        };
-    }
-    let found = entries::try_model(losses, weights, entries, loss, weight, tally::none());
-    let kept = found.entries;
-    let count = kept + 1;
-    if !path::path_has_room(count, sizes.len() / 2, losses.len() / 8, weights.len() / 2) {
-        return path::refuse(9);
-    }
-    store_item(sizes, 2, kept, entries, size);
-    store_item(losses, 8, kept, entries, loss);
-    store_item(weights, 2, kept, entries, weight);
-    let tests = found.tests;
-    PathResult {
-        refusal: 0,
-        entries: count,
-        tests: tests,
-    }
+    Ok(judged.path)
 }
 
 // Appends a model to the path of so many entries. The path then fills the front of the three byte strings.
@@ -76,62 +64,55 @@ pub fn append(
     ensures { outcome result (lists sizes.new losses.new weights.new)
         ≡ append_bytes_of (lists sizes.old losses.old weights.old) entries (model size loss weight) }
 {
-    if sizes.len() % 2 + losses.len() % 8 + weights.len() % 2 != 0 {
-        return path::refuse(11);
+    let models = ByteColumns {
+        sizes,
+        losses,
+        weights,
+    };
+    if models.spare() != 0 {
+        return PathResult::from(Err(Refusal::Layout));
     }
-    append_whole(sizes, losses, weights, entries, size, loss, weight)
+    let new = Entry { size, loss, weight };
+    PathResult::from(append_whole(sizes, losses, weights, entries, new))
 }
 
-// A build in three lists with as many places as there are models to read, by the older method where `older` says so.
-fn build_items(
-    older: bool,
-    sizes: &[u8],
-    losses: &[u8],
-    weights: &[u8],
+// A build in three lists with as many places as there are models to read.
+fn build_items<M: Method>(
+    models: &ByteColumns,
     path_sizes: &mut [u8],
     path_losses: &mut [u8],
     path_weights: &mut [u8],
     size_items: &mut [u64],
     loss_items: &mut [u64],
     weight_items: &mut [u64],
-) -> PathResult
+) -> Result<Kept, Refusal>
     requires { BuildFits
-        (lists sizes.now losses.now weights.now)
+        (strings_of models.now)
         (lists path_sizes.old path_losses.old path_weights.old)
         (length size_items.old) (length loss_items.old) (length weight_items.old) }
-    ensures { outcome result (lists path_sizes.new path_losses.new path_weights.new)
-        ≡ build_bytes_by older
-        (lists sizes.now losses.now weights.now)
+    ensures { outcome (answer_of result) (lists path_sizes.new path_losses.new path_weights.new)
+        ≡ build_bytes_with M.path M.tests
+        (strings_of models.now)
         (lists path_sizes.old path_losses.old path_weights.old) }
 {
-    read_models(sizes, losses, weights, size_items, loss_items, weight_items);
-    let made = quadratic::build_within(
-        older,
-        size_items,
-        loss_items,
-        weight_items,
+    models.read(size_items, loss_items, weight_items);
+    let rooms = [
         path_sizes.len() / 2,
         path_losses.len() / 8,
         path_weights.len() / 2,
-    );
-    if made.refusal != 0 {
-        return made;
-    }
-    encode_models(
-        0,
-        path_sizes,
-        path_losses,
-        path_weights,
-        size_items,
-        loss_items,
-        weight_items,
-    );
-    made
+    ];
+    let made = build::build_within::<M>(size_items, loss_items, weight_items, rooms)?;
+    let path = Columns {
+        sizes: size_items,
+        losses: loss_items,
+        weights: weight_items,
+    };
+    write_models(path_sizes, path_losses, path_weights, &path);
+    Ok(made)
 }
 
-// Builds the path of a list of models in three byte strings, by the older method where `older` says so.
-pub fn build_by(
-    older: bool,
+// Builds the path of a list of models in three byte strings, by the method that M stands for.
+pub fn build_with<M: Method>(
     sizes: &[u8],
     losses: &[u8],
     weights: &[u8],
@@ -140,45 +121,38 @@ pub fn build_by(
     path_weights: &mut [u8],
 ) -> PathResult
     ensures { outcome result (lists path_sizes.new path_losses.new path_weights.new)
-        ≡ build_bytes_by older
+        ≡ build_bytes_with M.path M.tests
         (lists sizes.now losses.now weights.now)
         (lists path_sizes.old path_losses.old path_weights.old) }
 {
-    let spare = sizes.len() % 2 + losses.len() % 8 + weights.len() % 2;
-    if spare + path_sizes.len() % 2 + path_losses.len() % 8 + path_weights.len() % 2 != 0 {
-        return path::refuse(11);
+    let models = ByteColumns {
+        sizes,
+        losses,
+        weights,
+    };
+    let buffers = ByteColumns {
+        sizes: path_sizes,
+        losses: path_losses,
+        weights: path_weights,
+    };
+    if models.spare() + buffers.spare() != 0 {
+        return PathResult::from(Err(Refusal::Layout));
     }
     let mut size_items = [0u64; MODELS_READ];
     let mut loss_items = [0u64; MODELS_READ];
     let mut weight_items = [0u64; MODELS_READ];
-    let a = smaller(sizes.len() / 2, MODELS_READ);
-    let b = smaller(losses.len() / 8, MODELS_READ);
-    let c = smaller(weights.len() / 2, MODELS_READ);
-    build_items(
-        older,
-        sizes,
-        losses,
-        weights,
+    let a = (sizes.len() / 2).min(MODELS_READ);
+    let b = (losses.len() / 8).min(MODELS_READ);
+    let c = (weights.len() / 2).min(MODELS_READ);
+    PathResult::from(build_items::<M>(
+        &models,
         path_sizes,
         path_losses,
         path_weights,
         &mut size_items[..a],
         &mut loss_items[..b],
         &mut weight_items[..c],
-    )
-}
-
-// The answer of a refused selection.
-fn refuse_selection(refusal: u64) -> SelectResult
-    ensures { result ≡ select_refused refusal }
-{
-    SelectResult {
-        refusal: refusal,
-        index: 0,
-        size: 0,
-        loss: 0,
-        weight: 0,
-    }
+    ))
 }
 
 // The entry of a path at the penalty p / q.
@@ -192,66 +166,58 @@ pub fn select(
 ) -> SelectResult
     ensures { result ≡ select_bytes_of (lists sizes.now losses.now weights.now) entries p q }
 {
-    if sizes.len() % 2 + losses.len() % 8 + weights.len() % 2 != 0 {
-        return refuse_selection(11);
+    let models = ByteColumns {
+        sizes,
+        losses,
+        weights,
+    };
+    if models.spare() != 0 {
+        return SelectResult::from(Err(Refusal::Layout));
     }
-    let valid = entries::valid_path(sizes, losses, weights, entries);
-    let refusal = select::select_refusal(valid, entries, p, q);
-    if refusal != 0 {
-        return refuse_selection(refusal);
-    }
-    let at = entries::walk(losses, weights, entries, p, q);
-    let entry = entries::entry_at(sizes, losses, weights, at);
-    SelectResult {
-        refusal: 0,
-        index: at,
-        size: entry.size,
-        loss: entry.loss,
-        weight: entry.weight,
-    }
+    SelectResult::from(select::select_from(&models, entries, p, q))
 }
 
-// The answer of a refused listing.
-fn refuse_listing(refusal: u64) -> BreakpointsResult
-    ensures { result ≡ record { refusal = refusal; count = 0 } }
+// Writes so many breakpoints, which are those of a path of one entry more. They go by losses and weights.
+fn write_breakpoints(
+    models: &ByteColumns,
+    count: usize,
+    numerators: &mut [u8],
+    denominators: &mut [u8],
+)
+    requires { ListableIn models.now.losses.now models.now.weights.now count numerators.old denominators.old }
+    ensures { WrittenIn 8 (λ (b : Fraction). b.numerator)
+        models.now.losses.now models.now.weights.now numerators.old numerators.new count
+        × WrittenIn 2 (λ (b : Fraction). b.denominator)
+        models.now.losses.now models.now.weights.now denominators.old denominators.new count }
 {
-    BreakpointsResult {
-        refusal: refusal,
-        count: 0,
+    for i in 0..count {
+        let found = select::breakpoint_at(models, i);
+        Item::<8>::put(found.numerator, numerators, 8 * i);
+        Item::<2>::put(found.denominator, denominators, 2 * i);
     }
 }
 
 // A listing where no byte is left over.
 fn breakpoints_whole(
-    sizes: &[u8],
-    losses: &[u8],
-    weights: &[u8],
+    models: &ByteColumns,
     entries: usize,
     numerators: &mut [u8],
     denominators: &mut [u8],
-) -> BreakpointsResult
-    requires { models_coding.spare (lists sizes.now losses.now weights.now)
+) -> Result<usize, Refusal>
+    requires { models_coding.spare (strings_of models.now)
         + fractions_coding.spare (fractions numerators.old denominators.old) ≡ 0 }
-    ensures { outcome result (fractions numerators.new denominators.new)
-        ≡ breakpoints_encoded (lists sizes.now losses.now weights.now) entries
+    ensures { outcome (listed_as result) (fractions numerators.new denominators.new)
+        ≡ breakpoints_encoded (strings_of models.now) entries
         (fractions numerators.old denominators.old) }
 {
-    let valid = entries::valid_path(sizes, losses, weights, entries);
-    let refusal = select::breakpoints_refusal(
-        valid,
+    let count = select::check_breakpoints(
+        models,
         entries,
         numerators.len() / 8,
         denominators.len() / 2,
-    );
-    if refusal != 0 {
-        return refuse_listing(refusal);
-    }
-    let count = select::breakpoint_count(entries);
-    entries::write_breakpoints(losses, weights, count, numerators, denominators);
-    BreakpointsResult {
-        refusal: 0,
-        count: count,
-    }
+    )?;
+    write_breakpoints(models, count, numerators, denominators);
+    Ok(count)
 }
 
 // Writes the breakpoints between the entries of a path, not reduced, to the front of two byte strings.
@@ -267,9 +233,13 @@ pub fn breakpoints(
         ≡ breakpoints_bytes_of (lists sizes.now losses.now weights.now) entries
         (fractions numerators.old denominators.old) }
 {
-    let spare = sizes.len() % 2 + losses.len() % 8 + weights.len() % 2;
-    if spare + numerators.len() % 8 + denominators.len() % 2 != 0 {
-        return refuse_listing(11);
+    let models = ByteColumns {
+        sizes,
+        losses,
+        weights,
+    };
+    if models.spare() + numerators.len() % 8 + denominators.len() % 2 != 0 {
+        return BreakpointsResult::from(Err(Refusal::Layout));
     }
-    breakpoints_whole(sizes, losses, weights, entries, numerators, denominators)
+    BreakpointsResult::from(breakpoints_whole(&models, entries, numerators, denominators))
 }

@@ -2,7 +2,12 @@
 -- stands here.
 use Rattle.std.specs.Prelude.{◌≡◌, cond, List, ◌++◌, map, ℕ, ◌*◌, ◌/◌, ◌%◌, ◌≤◌, ◌<◌, min, eqb, ℤ, length, drop}
 use Rattle.layout.specs.Items.{items_to, items_of, bytes_of, signed_of, unsigned_of}
-use Rattle.path.specs.Model.{Lists}
+use Rattle.path.specs.Model.{Lists, lists}
+use Rattle.coding.specs.declared.ByteColumns.{ByteColumns}
+
+-- The strings of models in byte strings.
+abbrev pub strings_of : ByteColumns → Lists
+strings_of c = lists c.sizes.now c.losses.now c.weights.now
 
 -- What a string holds after a list of items of k bytes was encoded to it, by the refusal of the call.
 abbrev pub encoded_to : ℕ → ℕ → List ℕ → List ℕ → List ℕ

@@ -5,10 +5,9 @@
 
 ghost use Rattle.std.specs.Prelude.{◌≡◌, ◌*◌, ◌≤◌, ◌∷◌, [], ◌++◌, length, take};
 ghost use Rattle.layout.specs.Items.{items_of, bytes_of};
-ghost use Rattle.path.specs.Model.{lists};
 ghost use Rattle.path.specs.Buffer.{overwritten_to};
 ghost use Rattle.coding.specs.Models.{models_coding};
-ghost use Rattle.coding.specs.Inner.{Storable, Holds, HoldsModels, ModelsRead, ModelsWritten, ModelsEncoded, SegmentsRead, SegmentsWritten, SegmentsEncoded};
+ghost use Rattle.coding.specs.Inner.{strings_of, Storable, Holds, HoldsModels, ModelsRead, ModelsWritten, ModelsEncoded, SegmentsRead, SegmentsWritten, SegmentsEncoded};
 
 use layout::{Item, item_at, read_items, write_items};
 use path::storage::{Columns, Models};
@@ -22,7 +21,7 @@ pub struct ByteColumns<'a> {
 }
 
 impl<'a> Models for ByteColumns<'a> {
-    ghost held = { λ c. models_coding.numbers (lists c.sizes.now c.losses.now c.weights.now) };
+    ghost held = { λ c. models_coding.numbers (strings_of c) };
 
     fn has_room(&self, n: usize) -> bool {
         n <= self.sizes.len() / 2 && n <= self.losses.len() / 8 && n <= self.weights.len() / 2
@@ -42,6 +41,13 @@ impl<'a> Models for ByteColumns<'a> {
 }
 
 impl<'a> ByteColumns<'a> {
+    // How many bytes are left over after whole items.
+    pub fn spare(&self) -> usize
+        ensures { result ≡ models_coding.spare (strings_of self.now) }
+    {
+        self.sizes.len() % 2 + self.losses.len() % 8 + self.weights.len() % 2
+    }
+
     // Reads as many sizes, losses and weights as the three lists have places.
     pub fn read(&self, size_items: &mut [u64], loss_items: &mut [u64], weight_items: &mut [u64])
         requires { HoldsModels

@@ -36,6 +36,7 @@ const KINDS: [Option<Rise>; 5] = [
 ];
 
 // Weights, of which the first are lent.
+// Stays: a buffer with a number beside it, since there is no heap (project rule); `lent` gives the slice.
 #[derive(Clone, Copy)]
 pub struct Weights {
     values: [u64; 40],
@@ -116,7 +117,10 @@ pub fn check(weights: &[u64], limit: usize) -> Result<(), Refusal> {
     if weights.is_empty() {
         return Ok(());
     }
-    let rising = weights.iter().zip(weights.iter().skip(1)).all(|(a, b)| a < b);
+    let rising = weights
+        .iter()
+        .zip(weights.iter().skip(1))
+        .all(|(a, b)| a < b);
     if weights.len() == limit && rising {
         Ok(())
     } else {

@@ -1,6 +1,7 @@
 // Samples and levels, and what the buffers of starts and levels hold before a call.
 
-// Stays: the C interface is lent plain numbers, so a place that a call left alone is told by a number. A level that is the mark counts as a place that is as before, and so as a mismatch where it is right.
+// Stays: the C interface is lent plain numbers, so a place that a call left alone is told by a number. A level that is the mark would
+// count as such a place; it is right in none of the cases here.
 pub const START_MARK: u16 = 65535;
 
 pub const LEVEL_MARK: i16 = -32669;

@@ -9,16 +9,18 @@ use Rattle.path.specs.declared.PathResult.{PathResult}
 use Rattle.byte_paths.specs.Paths.{path_answers, append_call}
 use Rattle.byte_paths.proofs.append.Goals as goal
 
-pub returns-then-sizes-losses-ne0 : goal.returns-then-sizes-losses-ne0
-returns-then-sizes-losses-ne0 c =
+pub returns-then-spare-ne0 : goal.returns-then-spare-ne0
+returns-then-spare-ne0 c =
     let a = c.args in
     let lent = lists a.sizes.now a.losses.now a.weights.now in
-    ap (λ (r : PathResult). outcome r lent) c.refuse.ensures
-    ∙ eleven none models_coding path_answers (append_call a.entries (model a.size a.loss a.weight)) tt lent (λ e. c.if-sizes-losses-ne0.true (omega arith))
+    ap (λ (r : PathResult). outcome r lent) c.from.ensures
+    ∙ eleven none models_coding path_answers (append_call a.entries (model a.size a.loss a.weight)) tt lent (λ e. c.if-spare-ne0.true (omega (arith, c.spare.ensures)))
 
 pub returns : goal.returns
 returns c =
     let a = c.args in
     let lent = lists a.sizes.now a.losses.now a.weights.now in
-    c.append_whole.ensures
-    ∙ whole-strings none models_coding path_answers (append_call a.entries (model a.size a.loss a.weight)) tt lent (omega (arith, c.if-sizes-losses-ne0.false))
+    let after = c.append_whole.new in
+    ap (λ (r : PathResult). outcome r (lists after.sizes after.losses after.weights)) c.from-2.ensures
+    ∙ c.append_whole.ensures
+    ∙ whole-strings none models_coding path_answers (append_call a.entries (model a.size a.loss a.weight)) tt lent (omega (arith, c.spare.ensures, c.if-spare-ne0.false))

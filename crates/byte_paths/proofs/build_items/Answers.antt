@@ -2,16 +2,19 @@
 -- the lists are written to the buffers.
 use mathlib.Core.Path.{◌≡◌, refl, ap, ◌∙◌}
 use lib.ListN.{length}
+use Rattle.std.proofs.lemmas.Result.{err_from_is_err_and}
+use Rattle.std.proofs.Common.{Ok, Err}
 use Rattle.coding.specs.Models.{models_coding}
-use Rattle.coding.specs.Inner.{ListsFit, ModelsRead}
+use Rattle.coding.specs.Inner.{ListsFit, ModelsRead, strings_of}
 use Rattle.coding.proofs.Models.{models_cut, models-held, models-fit, models-hold}
 use Rattle.coding.proofs.Calls.{strings-stay, strings-written}
 use Rattle.path.specs.Model.{Lists, lists}
-use Rattle.path.specs.Inner.{first_places}
+use Rattle.path.specs.Inner.{first_places, answer_of}
+use Rattle.path.proofs.Numbers.{number_some}
 use Rattle.build.specs.Build.{count_of}
-use Rattle.byte_paths.specs.Paths.{path_answers, build_call}
+use Rattle.byte_paths.specs.Paths.{path_answers}
 use Rattle.byte_paths.specs.Inner.{models_read}
-use Rattle.byte_paths.proofs.PathCuts.{build-read, build-refused, build-accepted, build-fits}
+use Rattle.byte_paths.proofs.PathCuts.{call, build-read, build-refused, build-accepted, build-fits}
 use Rattle.byte_paths.proofs.build_items.Goals as goal
 
 -- The models of the strings x that a build looks at.
@@ -26,56 +29,65 @@ read-is : (x items read : Lists)
 read-is x items read fit r =
     (λ i. lists (r.sizes_are i) (r.losses_are i) (r.weights_are i)) ∙ (models_cut models_read).reads x items (models-fit x fit items refl refl refl)
 
-pub read_models-requires : goal.read_models-requires
-read_models-requires c =
+pub read-requires : goal.read-requires
+read-requires g c =
     let a = c.args in
-    models-hold (lists a.sizes.now a.losses.now a.weights.now) c.requires.given refl refl refl
+    models-hold (strings_of a.models.now) c.requires.given refl refl refl
 
-pub returns-then-made-ne0 : goal.returns-then-made-ne0
-returns-then-made-ne0 c =
+pub returns-in_err-made : goal.returns-in_err-made
+returns-in_err-made g c =
     let a = c.args in
-    let x : Lists = lists a.sizes.now a.losses.now a.weights.now in
+    let m = g.M.Method in
+    let few = g.met.M.Method.few in
+    let x = strings_of a.models.now in
     let b : Lists = lists a.path_sizes.now a.path_losses.now a.path_weights.now in
-    let r = c.read_models.new in
+    let r = c.read.new in
     let read : Lists = lists r.size_items r.loss_items r.weight_items in
-    let is = read-is x (lists a.size_items.now a.loss_items.now a.weight_items.now) read c.requires.given c.read_models.ensures in
-    let made-is = build-read a.older x b _ read is c.build_within-made.ensures in
-    strings-stay models_coding models_coding path_answers (build_call a.older) x b c.requires.whole c.build_within-made.result c.if-made-ne0.true
-    (build-refused a.older x b _ made-is c.if-made-ne0.true)
+    let is = read-is x (lists a.size_items.now a.loss_items.now a.weight_items.now) read c.requires.given c.read.ensures in
+    let e = c.in_err-made.field-0.0 in
+    let p = err_from_is_err_and c.from_residual.result c.from_residual.ensures.1 in
+    let made-is = build-read m.path m.tests few x b _ read is c.in_err-made.ensures in
+    rw (p.1, p.2)
+    (strings-stay models_coding models_coding path_answers (call m.path m.tests few x b) x b c.requires.whole (answer_of (Err e)) (number_some e)
+    (build-refused m.path m.tests few x b _ made-is (number_some e)))
 
-pub encode_models-requires : goal.encode_models-requires
-encode_models-requires c =
+pub write_models-requires : goal.write_models-requires
+write_models-requires g c =
     let a = c.args in
-    let x : Lists = lists a.sizes.now a.losses.now a.weights.now in
+    let m = g.M.Method in
+    let few = g.met.M.Method.few in
+    let x = strings_of a.models.now in
     let b : Lists = lists a.path_sizes.now a.path_losses.now a.path_weights.now in
-    let r = c.read_models.new in
+    let r = c.read.new in
     let read : Lists = lists r.size_items r.loss_items r.weight_items in
-    let is = read-is x (lists a.size_items.now a.loss_items.now a.weight_items.now) read c.requires.given c.read_models.ensures in
-    let made-is = build-read a.older x b _ read is c.build_within-made.ensures in
-    let stays = c.build_within-made.auto in
-    models-hold b (build-fits a.older x b _ made-is c.if-made-ne0.false)
+    let is = read-is x (lists a.size_items.now a.loss_items.now a.weight_items.now) read c.requires.given c.read.ensures in
+    let made-is = build-read m.path m.tests few x b _ read is c.in_ok-made.ensures in
+    let stays = c.build_within.auto in
+    models-hold b (build-fits m.path m.tests few x b _ made-is refl)
     (stays.sizes ∙ ap (λ (t : Lists). length t.sizes) is)
     (stays.losses ∙ ap (λ (t : Lists). length t.losses) is)
     (stays.weights ∙ ap (λ (t : Lists). length t.weights) is)
 
 pub returns : goal.returns
-returns c =
+returns g c =
     let a = c.args in
-    let x : Lists = lists a.sizes.now a.losses.now a.weights.now in
+    let m = g.M.Method in
+    let few = g.met.M.Method.few in
+    let x = strings_of a.models.now in
     let b : Lists = lists a.path_sizes.now a.path_losses.now a.path_weights.now in
-    let r = c.read_models.new in
+    let r = c.read.new in
     let read : Lists = lists r.size_items r.loss_items r.weight_items in
-    let is = read-is x (lists a.size_items.now a.loss_items.now a.weight_items.now) read c.requires.given c.read_models.ensures in
-    let made-is = build-read a.older x b _ read is c.build_within-made.ensures in
-    let stays = c.build_within-made.auto in
-    let m = c.build_within-made.new in
-    let left : Lists = lists m.sizes m.losses m.weights in
-    let w = c.encode_models.ensures in
-    let fit = build-fits a.older x b _ made-is c.if-made-ne0.false in
-    strings-written models_coding models_coding path_answers (build_call a.older) x b c.requires.whole c.build_within-made.result c.if-made-ne0.false
+    let is = read-is x (lists a.size_items.now a.loss_items.now a.weight_items.now) read c.requires.given c.read.ensures in
+    let made-is = build-read m.path m.tests few x b _ read is c.in_ok-made.ensures in
+    let stays = c.build_within.auto in
+    let n = c.build_within.new in
+    let left : Lists = lists n.sizes n.losses n.weights in
+    let w = c.write_models.ensures in
+    let fit = build-fits m.path m.tests few x b _ made-is refl in
+    strings-written models_coding models_coding path_answers (call m.path m.tests few x b) x b c.requires.whole (answer_of (Ok c.in_ok-made.made)) refl
     (models-held b c.slice_known-1.given c.slice_known-2-1.given c.slice_known-3-1.given)
     (models_cut (count_of (first x))) left
-    (build-accepted a.older x b _ made-is c.if-made-ne0.false)
+    (build-accepted m.path m.tests few x b _ made-is refl)
     (models-fit b fit left
     (stays.sizes ∙ ap (λ (t : Lists). length t.sizes) is)
     (stays.losses ∙ ap (λ (t : Lists). length t.losses) is)
