@@ -53,6 +53,7 @@ impl Sums {
 
     // The losses of all segments that end at sample `to`, by where they start.
     fn losses(&self, to: usize) -> Option<[u64; 512]> {
+        // Stays: no list beside it: it has the losses of the last segments.
         let mut losses = [0; 512];
         for (from, loss) in losses.get_mut(..to)?.iter_mut().enumerate() {
             *loss = self.loss(from, to)?;
@@ -133,6 +134,7 @@ impl<const ROWS: usize> Cells<ROWS> {
     }
 
     // The best segmentation of a signal with these sums into so many segments.
+    // Stays: a number of segments, and not a list's length.
     pub fn best(&self, samples: &[i16], sums: &Sums, segments: usize) -> Option<Segmentation> {
         let mut ends = [samples.len(); ROWS];
         for k in (0..segments).rev() {
