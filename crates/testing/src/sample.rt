@@ -12,6 +12,7 @@ pub fn raise(sample: i16) -> u64 {
 }
 
 // The sample that a number below 65,536 is when it is raised.
+// Stays: the way back from `raise`, which is not `lower` of two numbers.
 pub fn lower(raised: u64) -> i16 {
     ((raised % 65536) as i32 - 32768) as i16
 }
