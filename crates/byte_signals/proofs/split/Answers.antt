@@ -1,8 +1,8 @@
 -- `byte_signals::split` meets its contract: refused under 11, or the call by lists of as many items as are looked at.
-use mathlib.Core.Path.{◌≡◌, refl, ap, sym, ◌∙◌}
+use mathlib.Core.Path.{refl, ap, sym, ◌∙◌}
 use Rattle.coding.specs.Coding.{outcome}
 use Rattle.signal.specs.declared.SplitResult.{SplitResult}
-use Prim.Native.Nat.{ℕ, ◌+◌}
+use Prim.Native.Nat.{ℕ}
 use native.Mathlib.Omega.{arith}
 use lib.IntN.{ℤ, pos}
 use Rattle.least.specs.Segmentation.{max_segments}
