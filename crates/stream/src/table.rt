@@ -64,7 +64,7 @@ impl<'a> Table<'a> {
 
     // Whether marks stand in the first m columns of row k, where they are due. The bits that these values have in common are those of the
     // mark just where each of them is the mark, so that again nothing is decided on the way.
-    // Stays: a walk that ends at the first value that is not as is due.
+    // Stays: a loop over columns, as a table is bytes, and a value has its place by its row and column.
     fn marks_due(self, k: usize, m: usize) -> bool
         requires { RowIn k m × (m ≤ k) }
         ensures { result ≡ row_due self.entry.bytes.now k m }
