@@ -77,34 +77,19 @@ impl<'a> Table<'a> {
     }
 
     // Whether the values of row k in the first n columns are as is due.
-    // Stays: a walk that ends at the first value that is not as is due.
     fn row_due(self, k: usize, n: usize) -> bool
         requires { RowIn k n }
         ensures { result ≡ row_due self.entry.bytes.now k n }
     {
         let marks = k.min(n);
-        if !self.marks_due(k, marks) {
-            return false;
-        }
-        for j in marks..self.unsure_to(k, n) {
-            if !self.cell_due(k, j + 1) {
-                return false;
-            }
-        }
-        true
+        self.marks_due(k, marks) && (marks..self.unsure_to(k, n)).all(|j| self.cell_due(k, j + 1))
     }
 
     // Whether all values of the first n columns are as is due.
-    // Stays: a walk that ends at the first value that is not as is due.
     pub fn columns_due(self, n: usize) -> bool
         requires { n ≤ max_samples }
         ensures { result ≡ columns_due self.entry.bytes.now n }
     {
-        for k in 0..MAX_ROWS {
-            if !self.row_due(k, n) {
-                return false;
-            }
-        }
-        true
+        (0..MAX_ROWS).all(|k| self.row_due(k, n))
     }
 }
