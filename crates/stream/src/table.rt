@@ -64,7 +64,7 @@ impl<'a> Table<'a> {
 
     // Whether marks stand in the first m columns of row k, where they are due. The bits that these values have in common are those of the
     // mark just where each of them is the mark, so that again nothing is decided on the way.
-    // Stays: a walk that ends at the first value that is not as is due.
+    // Stays: a loop over columns, as a table is bytes, and a value has its place by its row and column.
     fn marks_due(self, k: usize, m: usize) -> bool
         requires { RowIn k m × (m ≤ k) }
         ensures { result ≡ row_due self.entry.bytes.now k m }
@@ -77,34 +77,19 @@ impl<'a> Table<'a> {
     }
 
     // Whether the values of row k in the first n columns are as is due.
-    // Stays: a walk that ends at the first value that is not as is due.
     fn row_due(self, k: usize, n: usize) -> bool
         requires { RowIn k n }
         ensures { result ≡ row_due self.entry.bytes.now k n }
     {
         let marks = k.min(n);
-        if !self.marks_due(k, marks) {
-            return false;
-        }
-        for j in marks..self.unsure_to(k, n) {
-            if !self.cell_due(k, j + 1) {
-                return false;
-            }
-        }
-        true
+        self.marks_due(k, marks) && (marks..self.unsure_to(k, n)).all(|j| self.cell_due(k, j + 1))
     }
 
     // Whether all values of the first n columns are as is due.
-    // Stays: a walk that ends at the first value that is not as is due.
     pub fn columns_due(self, n: usize) -> bool
         requires { n ≤ max_samples }
         ensures { result ≡ columns_due self.entry.bytes.now n }
     {
-        for k in 0..MAX_ROWS {
-            if !self.row_due(k, n) {
-                return false;
-            }
-        }
-        true
+        (0..MAX_ROWS).all(|k| self.row_due(k, n))
     }
 }

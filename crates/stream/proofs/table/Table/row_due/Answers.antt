@@ -1,31 +1,26 @@
--- `stream::Table::row_due` meets its contract. The invariant: the first j values of the row are as is due.
-use mathlib.Core.Path.{sym, ◌∙◌}
+-- `stream::Table::row_due` meets its contract: the marks, and std's test of the values that have to be looked at.
+use mathlib.Core.Path.{refl, sym, ◌∙◌}
+use Prim.Native.Nat.{◌+◌, ◌-◌}
 use native.Mathlib.Omega.{arith}
-use Rattle.stream.proofs.Due.{row-front, row-fails, row-next, row-fails-at}
+use borrow.Author.Tests.{tests}
+use Rattle.std.proofs.Common.{rules}
+use Rattle.std.proofs.lemmas.Iterator.{YieldsList-from_range}
+use Rattle.std.proofs.lemmas.Iterator.Search.{all_from_yields_List}
+use Rattle.stream.specs.Table.{cell_due}
+use Rattle.stream.proofs.Due.{row-fails, row-range}
 use Rattle.stream.proofs.table.Table.row_due.Goals as goal
 
-pub marks_due-requires : goal.marks_due-requires
-marks_due-requires c = (record { few = c.requires.few; within = omega arith }, omega arith)
-
-pub returns-then-not-marks_due : goal.returns-then-not-marks_due
-returns-then-not-marks_due c =
+pub returns-then-marks_due : goal.returns-then-marks_due
+returns-then-marks_due c =
     let a = c.args in
-    sym (row-fails a.self.bytes.now a.k _ a.n (omega arith) (sym c.marks_due.ensures ∙ c.if-not-marks_due.true))
+    let t = a.self.bytes.now in
+    let m = c.min-marks.result in
+    let u = c.unsure_to.result in
+    all_from_yields_List (λ j. cell_due t a.k (j + 1)) _ _ _ c.all.ensures.ran (YieldsList-from_range m u (u - m) refl refl) (λ x b q k. search (rules, tests))
+    ∙ row-range t a.k m u (sym c.marks_due.ensures ∙ c.if-marks_due.true)
+    ∙ sym c.unsure_to.ensures.rest
 
-pub loop-j-init : goal.loop-j-init
-loop-j-init c = sym c.marks_due.ensures ∙ c.if-not-marks_due.false
-
-pub returns-then-not-cell_due : goal.returns-then-not-cell_due
-returns-then-not-cell_due c =
+pub returns-else-marks_due : goal.returns-else-marks_due
+returns-else-marks_due c =
     let a = c.args in
-    sym (c.unsure_to-j-end.ensures.rest ∙ row-fails-at a.self.bytes.now a.k c.loop-j.j _ (omega arith) (sym c.cell_due.ensures ∙ c.if-not-cell_due.true))
-
-pub loop-j-preserved : goal.loop-j-preserved
-loop-j-preserved c =
-    let a = c.args in
-    row-next a.self.bytes.now a.k c.loop-j.j c.loop-j.invariant (sym c.cell_due.ensures ∙ c.if-not-cell_due.false)
-
-pub returns : goal.returns
-returns c =
-    let a = c.args in
-    sym (c.unsure_to-j-end.ensures.rest ∙ row-front a.self.bytes.now a.k _ c.loop-j.j (omega arith) c.loop-j.invariant)
+    c.if-marks_due.false ∙ sym (row-fails a.self.bytes.now a.k _ a.n (omega arith) (sym c.marks_due.ensures ∙ c.if-marks_due.false))
