@@ -14,7 +14,7 @@ use warnings;
 use Digest::SHA qw(sha256_hex);
 
 my ($what, $tree, $list) = @ARGV;
-my (%functions, %outside, %uses, %modules, %types, %impls, @odd, @sections);
+my (%functions, %outside, %uses, %modules, %types, %impls, @odd, @sections, $is_library);
 
 # Forms that could hide a name or a text from this reading: none may stand anywhere, between functions, within one, or in a literal. The
 # macros that are left are std's, and hide nothing that they are given.
@@ -104,7 +104,7 @@ sub without_ghosts {
 sub blocks {
     my ($module, $text) = @_;
     my @blocks;
-    while ($text =~ /^(?:pub\s+)?(impl|trait)\b([^{;]*)(?=\{)/mg) {
+    while ($text =~ /^[ \t]*(?:pub\s+)?(?:unsafe\s+)?(impl|trait)\b([^{;]*)(?=\{)/mg) {
         my ($kind, $head, $start) = ($1, joined($2), pos $text);
         my $end = $start + length bracketed($text, $start);
         $head =~ s/ where .*//;
@@ -167,6 +167,11 @@ sub read_file {
     $types{$module}{$1} = $2 while $rest =~ /\b(?:struct|enum|trait)\s+(\w+)\s*(?:<[^<>]*>)?\s*(?::[^{]*)?(\{[^}]*\}|\([^)]*\)|(?=;))/g;
     $uses{$module}{$2} = "$1$2" while $rest =~ /\buse\s+((?:\w+::)*)(\w+)\s*;/g;
     push @odd, "$module has: $1" while $rest =~ /($hides_outside)/g;
+    # A type of a trait stands in an impl. Elsewhere in the library one would be another name.
+    while ($text =~ /^[ \t]*((?:pub\s+)?type\s+\w+)/mg) {
+        my ($name, $at) = ($1, $-[0]);
+        push @odd, "$module has: $name" if $is_library->{$crate} && !grep { $_->{start} < $at && $at < $_->{end} } @blocks;
+    }
     push @odd, "$module has: $1" while $text =~ /($hides)/g;
 }
 
@@ -318,6 +323,7 @@ sub compare {
     print "not there: $_\n" for sort keys %listed;
 }
 
+$is_library = crates_below(qw(foldwig demands foldwig_report));
 for my $folder (sort glob "$tree/crates/*/src") {
     my ($crate) = $folder =~ m{([^/]+)/src$};
     read_folder($crate, $folder, $crate);

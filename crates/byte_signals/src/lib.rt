@@ -47,7 +47,7 @@ impl<'a> ByteSignal<'a> {
 }
 
 // Whether the weights after the first 32 are in range.
-// Stays: an early end, as a list of items is not at hand for `all`.
+// Stays: `all` over a range of places reads each item by its place too, and is no plainer.
 fn rest_in_range(weights: &[u8]) -> bool
     ensures { result ≡ all_in_range (drop max_segments (items_of 2 weights.now)) }
 {
