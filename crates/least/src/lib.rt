@@ -265,6 +265,7 @@ fn first_row(gains: &Gains, row: &mut [u64])
     requires { length gains.now.samples.now < length row.old }
     ensures { (d : ℕ) → 0 < d → RowIs gains.now.samples.now d 0 row.new }
 {
+    // Stays: an index, since the place in the row is the end of the segment that it has the gain of.
     for j in 1..=gains.samples.len() {
         row[j] = gains.gain(0, j);
     }

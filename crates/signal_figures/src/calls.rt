@@ -22,7 +22,7 @@ pub struct Arguments<'a> {
 
 impl<'a> Arguments<'a> {
     // A limit and a penalty, with the least length 1, no weights and all places of each buffer.
-    // Stays: p and q, as the calls under test take them.
+    // Stays: p and q, since a struct of the two would be taken apart again at each call under test.
     pub fn of(limit: u64, p: u64, q: u64) -> Self {
         Arguments {
             limit,
@@ -50,7 +50,7 @@ impl<'a> Arguments<'a> {
     }
 
     // The same at another penalty.
-    // Stays: p and q, as the calls under test take them.
+    // Stays: p and q, since a struct of the two would be taken apart again at each call under test.
     pub fn with_penalty(mut self, p: u64, q: u64) -> Self {
         self.p = p;
         self.q = q;

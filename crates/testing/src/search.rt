@@ -11,7 +11,7 @@ pub fn in_range(model: Model) -> bool {
 }
 
 // The cost of a model at the penalty p / q, times q, where it is not too large.
-// Stays: p and q, as the calls under test take them.
+// Stays: p and q, since a struct of the two would be taken apart again at each call under test.
 fn cost(model: Model, p: u64, q: u64) -> Option<u64> {
     let loss = model.loss.checked_mul(q)?;
     let weight = model.weight.checked_mul(p)?;
@@ -20,7 +20,7 @@ fn cost(model: Model, p: u64, q: u64) -> Option<u64> {
 
 // The cheapest of some models at the penalty p / q, of those that cost the same the smallest. There is none without models, nor where
 // a cost is too large.
-// Stays: p and q, as the calls under test take them.
+// Stays: p and q, since a struct of the two would be taken apart again at each call under test.
 pub fn cheapest(models: &[Model], p: u64, q: u64) -> Option<Model> {
     let mut best = *models.first()?;
     let mut least = cost(best, p, q)?;
