@@ -104,14 +104,17 @@ fn build_items<M: Method>(
         path_losses.len() / 8,
         path_weights.len() / 2,
     ];
-    let made = build::build_within::<M>(size_items, loss_items, weight_items, rooms)?;
+    let made = build::build_within::<M>(size_items, loss_items, weight_items, rooms);
+    if made.is_err() {
+        return made;
+    }
     let path = Columns {
         sizes: size_items,
         losses: loss_items,
         weights: weight_items,
     };
     write_models(path_sizes, path_losses, path_weights, &path);
-    Ok(made)
+    made
 }
 
 // Builds the path of a list of models in three byte strings, by the method that M stands for.

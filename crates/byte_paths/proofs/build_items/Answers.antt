@@ -1,15 +1,18 @@
 -- `byte_paths::build_items` meets its contract: the models are read to three lists, the path is built there, and where that is accepted
 -- the lists are written to the buffers.
-use mathlib.Core.Path.{◌≡◌, refl, ap, ◌∙◌}
+use mathlib.Core.Path.{◌≡◌, refl, sym, ap, ◌∙◌}
 use lib.ListN.{length}
-use Rattle.std.proofs.lemmas.Result.{err_from_is_err_and}
-use Rattle.std.proofs.Common.{Ok, Err}
+use mathlib.Core.Bool.{true, false, false≢true}
+use Rattle.std.specs.Prelude.{is_err}
+use Rattle.std.proofs.Common.{Result, Ok, Err}
 use Rattle.coding.specs.Models.{models_coding}
 use Rattle.coding.specs.Inner.{ListsFit, ModelsRead, strings_of}
 use Rattle.coding.proofs.Models.{models_cut, models-held, models-fit, models-hold}
 use Rattle.coding.proofs.Calls.{strings-stay, strings-written}
 use Rattle.path.specs.Model.{Lists, lists}
 use Rattle.path.specs.Inner.{first_places, answer_of}
+use Rattle.path.specs.declared.Kept.{Kept}
+use Rattle.path.specs.declared.refusal.Refusal.{Refusal}
 use Rattle.path.proofs.Numbers.{number_some}
 use Rattle.build.specs.Build.{count_of}
 use Rattle.byte_paths.specs.Paths.{path_answers}
@@ -29,13 +32,22 @@ read-is : (x items read : Lists)
 read-is x items read fit r =
     (λ i. lists (r.sizes_are i) (r.losses_are i) (r.weights_are i)) ∙ (models_cut models_read).reads x items (models-fit x fit items refl refl refl)
 
+-- An answer with a refusal has its number, which is not 0, and one with none has 0.
+refused : (r : Result Kept Refusal) → is_err r ≡ true → (answer_of r).refusal ≡ 0 → ⊥
+refused (Ok k) h = absurd (false≢true h)
+refused (Err e) h = number_some e
+
+accepted : (r : Result Kept Refusal) → is_err r ≡ false → (answer_of r).refusal ≡ 0
+accepted (Ok k) h = refl
+accepted (Err e) h = absurd (false≢true (sym h))
+
 pub read-requires : goal.read-requires
 read-requires g c =
     let a = c.args in
     models-hold (strings_of a.models.now) c.requires.given refl refl refl
 
-pub returns-in_err-made : goal.returns-in_err-made
-returns-in_err-made g c =
+pub returns-then-is_err : goal.returns-then-is_err
+returns-then-is_err g c =
     let a = c.args in
     let m = g.M.Method in
     let few = g.met.M.Method.few in
@@ -44,12 +56,11 @@ returns-in_err-made g c =
     let r = c.read.new in
     let read : Lists = lists r.size_items r.loss_items r.weight_items in
     let is = read-is x (lists a.size_items.now a.loss_items.now a.weight_items.now) read c.requires.given c.read.ensures in
-    let e = c.in_err-made.field-0.0 in
-    let p = err_from_is_err_and c.from_residual.result c.from_residual.ensures.1 in
-    let made-is = build-read m.path m.tests few x b _ read is c.in_err-made.ensures in
-    rw (p.1, p.2)
-    (strings-stay models_coding models_coding path_answers (call m.path m.tests few x b) x b c.requires.whole (answer_of (Err e)) (number_some e)
-    (build-refused m.path m.tests few x b _ made-is (number_some e)))
+    let made-is = build-read m.path m.tests few x b _ read is c.build_within-made.ensures in
+    let made = c.build_within-made.result in
+    let some = refused made (sym c.is_err.ensures.value ∙ c.if-is_err.true) in
+    strings-stay models_coding models_coding path_answers (call m.path m.tests few x b) x b c.requires.whole (answer_of made) some
+    (build-refused m.path m.tests few x b _ made-is some)
 
 pub write_models-requires : goal.write_models-requires
 write_models-requires g c =
@@ -61,9 +72,10 @@ write_models-requires g c =
     let r = c.read.new in
     let read : Lists = lists r.size_items r.loss_items r.weight_items in
     let is = read-is x (lists a.size_items.now a.loss_items.now a.weight_items.now) read c.requires.given c.read.ensures in
-    let made-is = build-read m.path m.tests few x b _ read is c.in_ok-made.ensures in
-    let stays = c.build_within.auto in
-    models-hold b (build-fits m.path m.tests few x b _ made-is refl)
+    let made-is = build-read m.path m.tests few x b _ read is c.build_within-made.ensures in
+    let whole = accepted c.build_within-made.result (sym c.is_err.ensures.value ∙ c.if-is_err.false) in
+    let stays = c.build_within-made.auto in
+    models-hold b (build-fits m.path m.tests few x b _ made-is whole)
     (stays.sizes ∙ ap (λ (t : Lists). length t.sizes) is)
     (stays.losses ∙ ap (λ (t : Lists). length t.losses) is)
     (stays.weights ∙ ap (λ (t : Lists). length t.weights) is)
@@ -78,16 +90,17 @@ returns g c =
     let r = c.read.new in
     let read : Lists = lists r.size_items r.loss_items r.weight_items in
     let is = read-is x (lists a.size_items.now a.loss_items.now a.weight_items.now) read c.requires.given c.read.ensures in
-    let made-is = build-read m.path m.tests few x b _ read is c.in_ok-made.ensures in
-    let stays = c.build_within.auto in
-    let n = c.build_within.new in
+    let made-is = build-read m.path m.tests few x b _ read is c.build_within-made.ensures in
+    let whole = accepted c.build_within-made.result (sym c.is_err.ensures.value ∙ c.if-is_err.false) in
+    let stays = c.build_within-made.auto in
+    let n = c.build_within-made.new in
     let left : Lists = lists n.sizes n.losses n.weights in
     let w = c.write_models.ensures in
-    let fit = build-fits m.path m.tests few x b _ made-is refl in
-    strings-written models_coding models_coding path_answers (call m.path m.tests few x b) x b c.requires.whole (answer_of (Ok c.in_ok-made.made)) refl
+    let fit = build-fits m.path m.tests few x b _ made-is whole in
+    strings-written models_coding models_coding path_answers (call m.path m.tests few x b) x b c.requires.whole (answer_of c.build_within-made.result) whole
     (models-held b c.slice_known-1.given c.slice_known-2-1.given c.slice_known-3-1.given)
     (models_cut (count_of (first x))) left
-    (build-accepted m.path m.tests few x b _ made-is refl)
+    (build-accepted m.path m.tests few x b _ made-is whole)
     (models-fit b fit left
     (stays.sizes ∙ ap (λ (t : Lists). length t.sizes) is)
     (stays.losses ∙ ap (λ (t : Lists). length t.losses) is)
