@@ -44,8 +44,8 @@ pub struct Weights {
 }
 
 // The weights 1, 2, 3 and so on, which equal the sizes.
-pub fn sizes() -> [u64; 40] {
-    array::from_fn(|i| i as u64 + 1)
+pub fn sizes<const N: usize>() -> [u64; N] {
+    array::from_fn(|i| (i as u64).saturating_add(1))
 }
 
 // What stands in place of a weight that comes after another, from a random number: one out of range, one not above the other, or the
