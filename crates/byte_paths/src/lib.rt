@@ -26,6 +26,7 @@ use select::{BreakpointsResult, SelectResult};
 const MODELS_READ: usize = MAX_MODELS + 1;
 
 // An append where no byte is left over.
+// Stays: three strings, because of what is written through a struct of `&mut` strings the caller knows nothing afterwards (tried).
 fn append_whole(
     sizes: &mut [u8],
     losses: &mut [u8],
@@ -52,6 +53,7 @@ fn append_whole(
 }
 
 // Appends a model to the path of so many entries. The path then fills the front of the three byte strings.
+// Stays: what the C interface lends, one by one.
 pub fn append(
     sizes: &mut [u8],
     losses: &mut [u8],
@@ -77,6 +79,7 @@ pub fn append(
 }
 
 // A build in three lists with as many places as there are models to read.
+// Stays: strings and lists one by one, because of what is written through a struct of them the caller knows nothing afterwards (tried).
 fn build_items<M: Method>(
     models: &ByteColumns,
     path_sizes: &mut [u8],
@@ -112,6 +115,7 @@ fn build_items<M: Method>(
 }
 
 // Builds the path of a list of models in three byte strings, by the method that M stands for.
+// Stays: what the C interface lends, one by one.
 pub fn build_with<M: Method>(
     sizes: &[u8],
     losses: &[u8],
@@ -156,6 +160,7 @@ pub fn build_with<M: Method>(
 }
 
 // The entry of a path at the penalty p / q.
+// Stays: what the C interface lends, one by one.
 pub fn select(
     sizes: &[u8],
     losses: &[u8],
@@ -221,6 +226,7 @@ fn breakpoints_whole(
 }
 
 // Writes the breakpoints between the entries of a path, not reduced, to the front of two byte strings.
+// Stays: what the C interface lends, one by one.
 pub fn breakpoints(
     sizes: &[u8],
     losses: &[u8],

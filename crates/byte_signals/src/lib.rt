@@ -72,6 +72,7 @@ fn read_weights(weights: &[u8], items: &mut [u64])
 }
 
 // A path call by lists with as many places as there are items to look at.
+// Stays: strings and lists one by one, because of what is written through a struct of them the caller knows nothing afterwards (tried).
 fn path_items(
     signal: &ByteSignal,
     path_sizes: &mut [u8],
@@ -116,6 +117,7 @@ fn path_items(
         path_weight_items,
         scratch,
     );
+    // Stays: the number, because README names `signal::signal_path`, whose answer has a refusal by its number.
     if found.refusal != 0 {
         return found;
     }
@@ -130,6 +132,7 @@ fn path_items(
 
 // The path of a signal cut into segments of min_segment_len samples or more: the sizes up to the limit that can be the cheapest at some
 // penalty, with their losses and weights. There is one weight for each size up to the limit, or none, and then a size is its own weight.
+// Stays: what the C interface lends, one by one.
 pub fn signal_path(
     samples: &[u8],
     max_segments: u64,
@@ -188,6 +191,7 @@ pub fn signal_path(
 }
 
 // A split by lists with as many places as there are items to look at.
+// Stays: strings and lists one by one, because of what is written through a struct of them the caller knows nothing afterwards (tried).
 fn split_items(
     signal: &ByteSignal,
     p: u64,
@@ -246,6 +250,7 @@ fn split_items(
         path_weight_items,
         scratch,
     );
+    // Stays: the number, because README names `signal::split`, whose answer has a refusal by its number.
     if split.refusal != 0 {
         return split;
     }
@@ -261,6 +266,7 @@ fn split_items(
 
 // The segmentation of a signal at the penalty p / q into segments of min_segment_len samples or more, and the signal's path of such
 // segments, by weights as in `signal_path`.
+// Stays: what the C interface lends, one by one.
 pub fn split(
     samples: &[u8],
     max_segments: u64,

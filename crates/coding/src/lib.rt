@@ -64,6 +64,7 @@ impl<'a> ByteColumns<'a> {
 }
 
 // Writes sizes, losses and weights to the front of three byte strings, whose rest stays.
+// Stays: three strings, because of what is written through a struct of `&mut` strings the caller knows nothing afterwards (tried).
 pub fn write_models(sizes: &mut [u8], losses: &mut [u8], weights: &mut [u8], models: &Columns<'_>)
     requires { HoldsModels
         (length models.now.sizes.now) (length models.now.losses.now) (length models.now.weights.now)
