@@ -26,7 +26,7 @@ use select::{BreakpointsResult, SelectResult};
 const MODELS_READ: usize = MAX_MODELS + 1;
 
 // An append where no byte is left over.
-// Stays: three strings, because of what is written through a struct of `&mut` strings the caller knows nothing afterwards (tried).
+// Stays: three lists, since of what is written through a struct of `&mut` lists the caller knows nothing afterwards.
 fn append_whole(
     sizes: &mut [u8],
     losses: &mut [u8],
@@ -53,7 +53,7 @@ fn append_whole(
 }
 
 // Appends a model to the path of so many entries. The path then fills the front of the three byte strings.
-// Stays: what the C interface lends, one by one.
+// Stays: the parameters are those of the call in C.
 pub fn append(
     sizes: &mut [u8],
     losses: &mut [u8],
@@ -79,7 +79,7 @@ pub fn append(
 }
 
 // A build in three lists with as many places as there are models to read.
-// Stays: strings and lists one by one, because of what is written through a struct of them the caller knows nothing afterwards (tried).
+// Stays: three lists, since of what is written through a struct of `&mut` lists the caller knows nothing afterwards.
 fn build_items<M: Method>(
     models: &ByteColumns,
     path_sizes: &mut [u8],
@@ -115,7 +115,7 @@ fn build_items<M: Method>(
 }
 
 // Builds the path of a list of models in three byte strings, by the method that M stands for.
-// Stays: what the C interface lends, one by one.
+// Stays: the parameters are those of the call in C.
 pub fn build_with<M: Method>(
     sizes: &[u8],
     losses: &[u8],
@@ -160,7 +160,7 @@ pub fn build_with<M: Method>(
 }
 
 // The entry of a path at the penalty p / q.
-// Stays: what the C interface lends, one by one.
+// Stays: the parameters are those of the call in C.
 pub fn select(
     sizes: &[u8],
     losses: &[u8],
@@ -183,6 +183,7 @@ pub fn select(
 }
 
 // Writes so many breakpoints, which are those of a path of one entry more. They go by losses and weights.
+// Stays: a number beside two buffers, which may be longer.
 fn write_breakpoints(
     models: &ByteColumns,
     count: usize,
@@ -203,6 +204,7 @@ fn write_breakpoints(
 }
 
 // A listing where no byte is left over.
+// Stays: a number beside what is lent, since it may be more than there are models, which is refused under 8.
 fn breakpoints_whole(
     models: &ByteColumns,
     entries: usize,
@@ -226,7 +228,7 @@ fn breakpoints_whole(
 }
 
 // Writes the breakpoints between the entries of a path, not reduced, to the front of two byte strings.
-// Stays: what the C interface lends, one by one.
+// Stays: the parameters are those of the call in C.
 pub fn breakpoints(
     sizes: &[u8],
     losses: &[u8],

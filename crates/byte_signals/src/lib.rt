@@ -47,6 +47,7 @@ impl<'a> ByteSignal<'a> {
 }
 
 // Whether the weights after the first 32 are in range.
+// Stays: an early end, as a list of items is not at hand for `all`.
 fn rest_in_range(weights: &[u8]) -> bool
     ensures { result ≡ all_in_range (drop max_segments (items_of 2 weights.now)) }
 {
@@ -72,7 +73,7 @@ fn read_weights(weights: &[u8], items: &mut [u64])
 }
 
 // A path call by lists with as many places as there are items to look at.
-// Stays: strings and lists one by one, because of what is written through a struct of them the caller knows nothing afterwards (tried).
+// Stays: three lists, since of what is written through a struct of `&mut` lists the caller knows nothing afterwards.
 fn path_items(
     signal: &ByteSignal,
     path_sizes: &mut [u8],
@@ -132,7 +133,7 @@ fn path_items(
 
 // The path of a signal cut into segments of min_segment_len samples or more: the sizes up to the limit that can be the cheapest at some
 // penalty, with their losses and weights. There is one weight for each size up to the limit, or none, and then a size is its own weight.
-// Stays: what the C interface lends, one by one.
+// Stays: the parameters are those of the call in C.
 pub fn signal_path(
     samples: &[u8],
     max_segments: u64,
@@ -191,7 +192,7 @@ pub fn signal_path(
 }
 
 // A split by lists with as many places as there are items to look at.
-// Stays: strings and lists one by one, because of what is written through a struct of them the caller knows nothing afterwards (tried).
+// Stays: three lists, since of what is written through a struct of `&mut` lists the caller knows nothing afterwards.
 fn split_items(
     signal: &ByteSignal,
     p: u64,
@@ -266,7 +267,7 @@ fn split_items(
 
 // The segmentation of a signal at the penalty p / q into segments of min_segment_len samples or more, and the signal's path of such
 // segments, by weights as in `signal_path`.
-// Stays: what the C interface lends, one by one.
+// Stays: the parameters are those of the call in C.
 pub fn split(
     samples: &[u8],
     max_segments: u64,

@@ -7,16 +7,20 @@ ghost use Rattle.std.specs.Prelude.{◌≡◌, length};
 ghost use Rattle.coding.specs.Coding.{outcome};
 ghost use Rattle.path.specs.Model.{lists};
 ghost use Rattle.stream.specs.Extend.{stream_buffers};
+ghost use Rattle.stream.specs.Inner.{extend_result, split_from_result};
 ghost use Rattle.byte_streams.specs.Streams.{extend_bytes_of, segment_strings, split_from_bytes_of};
 ghost use Rattle.byte_streams.specs.Inner.{ExtendFits, SplitFromFits};
 
 use byte_signals::READ_SAMPLES;
-use coding::{encode_models, encode_segments, read_models, read_segments};
-use layout::read_i16s;
-use least::smaller;
+use coding::{ByteColumns, read_segments, write_models, write_segments};
+use layout::read_items;
+use path::refusal::Refusal;
+use path::storage::Columns;
 use stream::{ExtendResult, MAX_ROWS, SplitFromResult};
 
 // An extension by lists with as many places as there are items to look at.
+// Stays: three strings and three lists, because of what is written through a struct of `&mut` lists the caller knows nothing afterwards
+// (tried).
 fn extend_items(
     samples: &[u8],
     sample: i16,
@@ -29,12 +33,12 @@ fn extend_items(
     size_items: &mut [u64],
     loss_items: &mut [u64],
     path_weight_items: &mut [u64],
-) -> ExtendResult
+) -> Result<usize, Refusal>
     requires { ExtendFits
         samples.now (stream_buffers table.old (lists path_sizes.old path_losses.old path_weights.old))
         (length sample_items.old)
         (length size_items.old) (length loss_items.old) (length path_weight_items.old) }
-    ensures { outcome result
+    ensures { outcome (extend_result result)
         (stream_buffers
         table.new
         (lists path_sizes.new path_losses.new path_weights.new))
@@ -43,16 +47,14 @@ fn extend_items(
         table.old
         (lists path_sizes.old path_losses.old path_weights.old)) }
 {
-    read_i16s(samples, sample_items);
-    read_models(
-        path_sizes,
-        path_losses,
-        path_weights,
-        size_items,
-        loss_items,
-        path_weight_items,
-    );
-    let extension = stream::extend(
+    read_items::<2, i16>(samples, sample_items);
+    let lent = ByteColumns {
+        sizes: path_sizes,
+        losses: path_losses,
+        weights: path_weights,
+    };
+    lent.read(size_items, loss_items, path_weight_items);
+    let entries = stream::extend_checked(
         sample_items,
         sample,
         max_segments,
@@ -60,20 +62,18 @@ fn extend_items(
         size_items,
         loss_items,
         path_weight_items,
-    );
-    encode_models(
-        extension.refusal,
-        path_sizes,
-        path_losses,
-        path_weights,
-        size_items,
-        loss_items,
-        path_weight_items,
-    );
-    extension
+    )?;
+    let path = Columns {
+        sizes: size_items,
+        losses: loss_items,
+        weights: path_weight_items,
+    };
+    write_models(path_sizes, path_losses, path_weights, &path);
+    Ok(entries)
 }
 
 // Extends a streaming signal by one sample: its column of the table, and the path so far.
+// Stays: three strings, because the C interface lends them so.
 pub fn extend(
     samples: &[u8],
     sample: i16,
@@ -92,25 +92,24 @@ pub fn extend(
         table.old
         (lists path_sizes.old path_losses.old path_weights.old)) }
 {
-    let spare = samples.len() % 2
-        + path_sizes.len() % 2
-        + path_losses.len() % 8
-        + path_weights.len() % 2;
+    let lent = ByteColumns {
+        sizes: path_sizes,
+        losses: path_losses,
+        weights: path_weights,
+    };
+    let spare = samples.len() % 2 + lent.spare();
     if spare != 0 {
-        return ExtendResult {
-            refusal: 11,
-            entries: 0,
-        };
+        return ExtendResult::from(Err(Refusal::Layout));
     }
     let mut sample_items = [0i16; READ_SAMPLES];
     let mut size_items = [0u64; MAX_ROWS];
     let mut loss_items = [0u64; MAX_ROWS];
     let mut path_weight_items = [0u64; MAX_ROWS];
-    let n = smaller(samples.len() / 2, READ_SAMPLES);
-    let s = smaller(path_sizes.len() / 2, MAX_ROWS);
-    let l = smaller(path_losses.len() / 8, MAX_ROWS);
-    let w = smaller(path_weights.len() / 2, MAX_ROWS);
-    extend_items(
+    let n = (samples.len() / 2).min(READ_SAMPLES);
+    let s = (path_sizes.len() / 2).min(MAX_ROWS);
+    let l = (path_losses.len() / 8).min(MAX_ROWS);
+    let w = (path_weights.len() / 2).min(MAX_ROWS);
+    ExtendResult::from(extend_items(
         samples,
         sample,
         max_segments,
@@ -122,10 +121,11 @@ pub fn extend(
         &mut size_items[..s],
         &mut loss_items[..l],
         &mut path_weight_items[..w],
-    )
+    ))
 }
 
 // A split from a table by lists with as many places as there are items to look at.
+// Stays: p and q as they are lent, because six checks come before that of the penalty.
 fn split_from_items(
     samples: &[u8],
     max_segments: u64,
@@ -137,17 +137,17 @@ fn split_from_items(
     sample_items: &mut [i16],
     start_items: &mut [u16],
     level_items: &mut [i16],
-) -> SplitFromResult
+) -> Result<(usize, u64), Refusal>
     requires { SplitFromFits
         samples.now (segment_strings starts.old levels.old)
         (length sample_items.old) (length start_items.old) (length level_items.old) }
-    ensures { outcome result (segment_strings starts.new levels.new)
+    ensures { outcome (split_from_result result) (segment_strings starts.new levels.new)
         ≡ split_from_bytes_of samples.now max_segments p q table.now
         (segment_strings starts.old levels.old) }
 {
-    read_i16s(samples, sample_items);
+    read_items::<2, i16>(samples, sample_items);
     read_segments(starts, levels, start_items, level_items);
-    let split = stream::split_from(
+    let split = stream::split_from_checked(
         sample_items,
         max_segments,
         p,
@@ -155,12 +155,13 @@ fn split_from_items(
         table,
         start_items,
         level_items,
-    );
-    encode_segments(split.refusal, starts, levels, start_items, level_items);
-    split
+    )?;
+    write_segments(starts, levels, start_items, level_items);
+    Ok(split)
 }
 
 // The segmentation of a streaming signal at the penalty p / q from its table.
+// Stays: p and q, because the C interface lends them so.
 pub fn split_from(
     samples: &[u8],
     max_segments: u64,
@@ -175,19 +176,15 @@ pub fn split_from(
         (segment_strings starts.old levels.old) }
 {
     if samples.len() % 2 + starts.len() % 2 + levels.len() % 2 != 0 {
-        return SplitFromResult {
-            refusal: 11,
-            segments: 0,
-            loss: 0,
-        };
+        return SplitFromResult::from(Err(Refusal::Layout));
     }
     let mut sample_items = [0i16; READ_SAMPLES];
     let mut start_items = [0u16; MAX_ROWS];
     let mut level_items = [0i16; MAX_ROWS];
-    let n = smaller(samples.len() / 2, READ_SAMPLES);
-    let a = smaller(starts.len() / 2, MAX_ROWS);
-    let b = smaller(levels.len() / 2, MAX_ROWS);
-    split_from_items(
+    let n = (samples.len() / 2).min(READ_SAMPLES);
+    let a = (starts.len() / 2).min(MAX_ROWS);
+    let b = (levels.len() / 2).min(MAX_ROWS);
+    SplitFromResult::from(split_from_items(
         samples,
         max_segments,
         p,
@@ -198,5 +195,5 @@ pub fn split_from(
         &mut sample_items[..n],
         &mut start_items[..a],
         &mut level_items[..b],
-    )
+    ))
 }

@@ -1,6 +1,6 @@
 -- What the functions that read and write lists together ask for and leave. A reader of the calls need not believe anything that
 -- stands here.
-use Rattle.std.specs.Prelude.{◌≡◌, cond, List, ◌++◌, map, ℕ, ◌*◌, ◌/◌, ◌%◌, ◌≤◌, ◌<◌, min, eqb, ℤ, length, drop}
+use Rattle.std.specs.Prelude.{◌≡◌, List, ◌++◌, map, ℕ, ◌*◌, ◌/◌, ◌%◌, ◌≤◌, ◌<◌, min, ℤ, length, drop}
 use Rattle.layout.specs.Items.{items_to, items_of, bytes_of, signed_of, unsigned_of}
 use Rattle.path.specs.Model.{Lists, lists}
 use Rattle.coding.specs.declared.ByteColumns.{ByteColumns}
@@ -8,14 +8,6 @@ use Rattle.coding.specs.declared.ByteColumns.{ByteColumns}
 -- The strings of models in byte strings.
 abbrev pub strings_of : ByteColumns → Lists
 strings_of c = lists c.sizes.now c.losses.now c.weights.now
-
--- What a string holds after a list of items of k bytes was encoded to it, by the refusal of the call.
-abbrev pub encoded_to : ℕ → ℕ → List ℕ → List ℕ → List ℕ
-encoded_to refusal k bytes items = cond (eqb refusal 0) (bytes_of k items ++ drop (k * length items) bytes) bytes
-
--- The same of signed items.
-abbrev pub encoded_signed : ℕ → List ℕ → List ℤ → List ℕ
-encoded_signed refusal bytes items = cond (eqb refusal 0) (bytes_of 2 (map unsigned_of items) ++ drop (2 * length items) bytes) bytes
 
 -- What a string holds after a list of items of k bytes was written to its front.
 abbrev pub written_to : ℕ → List ℕ → List ℕ → List ℕ
@@ -49,11 +41,6 @@ pub record ModelsRead (sizes losses weights s l w : List ℕ) (a b c : ℕ) : Ty
   pub weights_are : w ≡ items_to 2 weights c
 
 -- The strings of sizes, losses and weights that were written.
-pub record ModelsEncoded (refusal : ℕ) (sizes losses weights s l w sizes' losses' weights' : List ℕ) : Type 0 where
-  pub sizes_are : sizes' ≡ encoded_to refusal 2 sizes s
-  pub losses_are : losses' ≡ encoded_to refusal 8 losses l
-  pub weights_are : weights' ≡ encoded_to refusal 2 weights w
-
 pub record ModelsWritten (sizes losses weights s l w sizes' losses' weights' : List ℕ) : Type 0 where
   pub sizes_are : sizes' ≡ written_to 2 sizes s
   pub losses_are : losses' ≡ written_to 8 losses l
@@ -65,10 +52,6 @@ pub record SegmentsRead (starts levels s : List ℕ) (l : List ℤ) (a b : ℕ) 
   pub levels_are : l ≡ map signed_of (items_to 2 levels b)
 
 -- The strings of starts and levels that were written.
-pub record SegmentsEncoded (refusal : ℕ) (starts levels s : List ℕ) (l : List ℤ) (starts' levels' : List ℕ) : Type 0 where
-  pub starts_are : starts' ≡ encoded_to refusal 2 starts s
-  pub levels_are : levels' ≡ encoded_signed refusal levels l
-
 pub record SegmentsWritten (starts levels s : List ℕ) (l : List ℤ) (starts' levels' : List ℕ) : Type 0 where
   pub starts_are : starts' ≡ written_to 2 starts s
   pub levels_are : levels' ≡ written_signed levels l

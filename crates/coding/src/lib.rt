@@ -7,7 +7,7 @@ ghost use Rattle.std.specs.Prelude.{◌≡◌, ◌*◌, ◌≤◌, ◌∷◌, []
 ghost use Rattle.layout.specs.Items.{items_of, bytes_of};
 ghost use Rattle.path.specs.Buffer.{overwritten_to};
 ghost use Rattle.coding.specs.Models.{models_coding};
-ghost use Rattle.coding.specs.Inner.{strings_of, Storable, Holds, HoldsModels, ModelsRead, ModelsWritten, ModelsEncoded, SegmentsRead, SegmentsWritten, SegmentsEncoded};
+ghost use Rattle.coding.specs.Inner.{strings_of, Storable, Holds, HoldsModels, ModelsRead, ModelsWritten, SegmentsRead, SegmentsWritten};
 
 use layout::{Item, item_at, read_items, write_items};
 use path::storage::{Columns, Models};
@@ -64,7 +64,7 @@ impl<'a> ByteColumns<'a> {
 }
 
 // Writes sizes, losses and weights to the front of three byte strings, whose rest stays.
-// Stays: three strings, because of what is written through a struct of `&mut` strings the caller knows nothing afterwards (tried).
+// Stays: three lists, since of what is written through a struct of `&mut` lists the caller knows nothing afterwards.
 pub fn write_models(sizes: &mut [u8], losses: &mut [u8], weights: &mut [u8], models: &Columns<'_>)
     requires { HoldsModels
         (length models.now.sizes.now) (length models.now.losses.now) (length models.now.weights.now)
@@ -79,6 +79,7 @@ pub fn write_models(sizes: &mut [u8], losses: &mut [u8], weights: &mut [u8], mod
 }
 
 // Reads as many starts and levels as the two lists have places.
+// Stays: what it asks is of two strings and two lists that are written, which no type holds together.
 pub fn read_segments(starts: &[u8], levels: &[u8], start_items: &mut [u16], level_items: &mut [i16])
     requires { Holds 2 2 (length start_items.old) (length level_items.old) starts.now levels.now }
     ensures { SegmentsRead starts.now levels.now
@@ -106,6 +107,7 @@ pub fn write_segments(
 }
 
 // Puts a value after the first items, which stay, and zeros after it as far as item n.
+// Stays: the numbers are places and not the lists' lengths.
 pub fn store_item<const W: usize, T: Item<W>>(bytes: &mut [u8], kept: usize, n: usize, value: T)
     requires { Storable W bytes.old kept n }
     ensures { bytes.new ≡ bytes_of W (overwritten_to
@@ -116,73 +118,4 @@ pub fn store_item<const W: usize, T: Item<W>>(bytes: &mut [u8], kept: usize, n: 
     value.put(bytes, W * kept);
     let after = W * (kept + 1);
     bytes[after..after.max(W * n)].fill(0);
-}
-
-// The forms before these, until byte_streams calls them.
-pub fn read_models(
-    sizes: &[u8],
-    losses: &[u8],
-    weights: &[u8],
-    size_items: &mut [u64],
-    loss_items: &mut [u64],
-    weight_items: &mut [u64],
-)
-    requires { HoldsModels
-        (length size_items.old) (length loss_items.old) (length weight_items.old)
-        sizes.now losses.now weights.now }
-    ensures { ModelsRead sizes.now losses.now weights.now
-        size_items.new loss_items.new weight_items.new
-        (length size_items.old) (length loss_items.old) (length weight_items.old) }
-{
-    ByteColumns {
-        sizes,
-        losses,
-        weights,
-    }
-    .read(size_items, loss_items, weight_items);
-}
-
-pub fn encode_models(
-    refusal: u64,
-    sizes: &mut [u8],
-    losses: &mut [u8],
-    weights: &mut [u8],
-    size_items: &[u64],
-    loss_items: &[u64],
-    weight_items: &[u64],
-)
-    requires { HoldsModels
-        (length size_items.now) (length loss_items.now) (length weight_items.now)
-        sizes.old losses.old weights.old }
-    ensures { ModelsEncoded refusal sizes.old losses.old weights.old
-        size_items.now loss_items.now weight_items.now
-        sizes.new losses.new weights.new }
-{
-    if refusal != 0 {
-        return;
-    }
-    let models = Columns {
-        sizes: size_items,
-        losses: loss_items,
-        weights: weight_items,
-    };
-    write_models(sizes, losses, weights, &models);
-}
-
-pub fn encode_segments(
-    refusal: u64,
-    starts: &mut [u8],
-    levels: &mut [u8],
-    start_items: &[u16],
-    level_items: &[i16],
-)
-    requires { Holds 2 2 (length start_items.now) (length level_items.now) starts.old levels.old }
-    ensures { SegmentsEncoded refusal starts.old levels.old
-        start_items.now level_items.now
-        starts.new levels.new }
-{
-    if refusal != 0 {
-        return;
-    }
-    write_segments(starts, levels, start_items, level_items);
 }

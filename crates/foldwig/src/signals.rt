@@ -10,6 +10,7 @@ use signal::{SignalPathResult, SplitResult};
 
 // The path of a signal cut into segments of min_segment_len samples or more: the sizes up to the limit that can be the cheapest at some
 // penalty, with their losses and weights. There is one weight for each size up to the limit, or none, and then a size is its own weight.
+// Stays: the parameters are those of the call in C.
 #[unsafe(no_mangle)]
 pub extern "C" fn foldwig_signal_path(
     samples: &[u8],
@@ -44,6 +45,7 @@ pub extern "C" fn foldwig_signal_path(
 
 // The segmentation of a signal at the penalty p / q into segments of min_segment_len samples or more, and the signal's path of such
 // segments, by weights as in `foldwig_signal_path`.
+// Stays: the parameters are those of the call in C.
 #[unsafe(no_mangle)]
 pub extern "C" fn foldwig_split(
     samples: &[u8],

@@ -76,13 +76,15 @@ impl<'a> Search<'a> {
             self.now.signal.gains.samples.now self.now.signal.min_segment_len self.now.m self.now.to
             lost result }
     {
-        let last = self.to - self.signal.min_segment_len;
-        for right in from..last {
+        let mut right = from;
+        // Stays: with a `for`, or with `position` over the floors, 512 equal samples take 1.2 times as long.
+        while right + self.signal.min_segment_len < self.to {
             if lost <= self.floors[right + 1] {
                 return right;
             }
+            right += 1;
         }
-        last
+        right
     }
 
     // The lowest start from low on that is still to be looked at, going down from a start i whose segment has the gain tail: no start
@@ -205,6 +207,7 @@ fn later(a: usize, b: usize) -> usize
 
 // The gains of m + 2 segments from those of m + 1, and row m of the table of starts. Each search begins at the start found for the end
 // before, and with its limit.
+// Stays: m is a number of segments, and not a list's length.
 fn next_row(
     signal: &Signal,
     old: &[u64],
@@ -240,6 +243,7 @@ fn next_row(
 
 // Keeps the row of the gains of m + 1 segments as the old one, and has for each number of samples that they may have the least of their
 // losses over so many samples or more.
+// Stays: m is a number of segments, and not a list's length.
 fn keep_row(signal: &Signal, row: &[u64], old: &mut [u64], floors: &mut [u64], m: usize)
     requires { KeepFrom
         signal.now.gains.samples.now row.now old.old floors.old
@@ -291,13 +295,6 @@ fn all_rows(
     }
 }
 
-// The smaller of two numbers.
-pub fn smaller(a: usize, b: usize) -> usize
-    ensures { result ≡ min a b }
-{
-    a.min(b)
-}
-
 // The same from the samples alone, for as many segments as there may be and can be. Returns that number.
 pub fn fill_table(
     samples: &[i16],
@@ -330,6 +327,7 @@ pub fn fill_table(
 }
 
 // Writes the starts of the chosen segmentation, counted from 1, from the table. The least length is lent for the contract alone.
+// Stays: the buffers are lent, and may be longer than there are segments.
 pub fn trace_back(
     samples: &[i16],
     scratch: &[u8],
@@ -352,6 +350,7 @@ pub fn trace_back(
 
 // Writes the levels of the chosen segmentation from its starts, from the last segment back. The least length is lent for the contract
 // alone.
+// Stays: the buffers are lent, and may be longer than there are segments.
 pub fn put_levels(
     samples: &[i16],
     starts: &[u16],

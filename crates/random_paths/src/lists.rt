@@ -108,6 +108,7 @@ fn lists_well(path: &Lists<12>, entries: usize) -> Option<bool> {
 }
 
 // Whether the model that a path gives at the penalty p / q is the smallest of the cheapest of all models.
+// Stays: a number beside the lists, as the calls under test take it.
 fn selects_well(models: &[Model], path: &Lists<12>, entries: usize, p: u64, q: u64) -> bool {
     let found = select::select(&path.sizes, &path.losses, &path.weights, entries, p, q);
     let model = Some(Model::new(found.size, found.loss, found.weight));
@@ -116,6 +117,7 @@ fn selects_well(models: &[Model], path: &Lists<12>, entries: usize, p: u64, q: u
 
 // The mismatches at the penalty at which two models cost the same, and at its two neighbours; none if the first is not the
 // lighter one.
+// Stays: a number beside the lists, as the calls under test take it.
 fn pair_faults(
     models: &[Model],
     path: &Lists<12>,

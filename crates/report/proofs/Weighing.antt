@@ -1,17 +1,18 @@
 -- The weights of a form: how they are judged, and what is printed after them.
 use mathlib.Core.Path.{◌≡◌, refl, sym, ap, ◌∙◌}
-use mathlib.Core.Bool.{Bool, true, false, cond}
+use mathlib.Core.Bool.{cond}
 use mathlib.Core.List.{List, [], ◌∷◌, ◌++◌}
-use Prim.Native.Nat.{ℕ, ◌+◌, ◌≤◌, ◌<◌}
+use Prim.Native.Nat.{ℕ, ◌≤◌, ◌<◌}
 use native.Mathlib.Omega.{arith}
 use lib.Dec.{leb, eqb}
 use lib.IntN.{ℤ}
 use lib.ListN.{length, get_or, take, drop, length-append}
-use lib.Seq.{length-take-le}
 use mathlib.Core.Logic.{⊎_elim}
 use native.Mathlib.Nat.{eq-zero-or-pos}
 use borrow.Author.Tests.{leb-true, lt-leb, le-leb, ne_eqb, eqb-true}
+use Rattle.path.specs.Numbers.{number_of}
 use Rattle.path.specs.Refusal.{check, by_checks, refusal_of}
+use Rattle.path.specs.declared.refusal.Refusal.{Refusal}
 use Rattle.path.proofs.Checks.{both, passed, refuses, accepts, check-fails, check-passes}
 use Rattle.path.proofs.Cuts.{le-or-lt}
 use Rattle.least.specs.Segmentation.{max_segments}
@@ -22,84 +23,53 @@ use Rattle.weights.proofs.Folds.{folded-few, folded-checks}
 use Rattle.report.specs.Forms.{weights, form_of}
 use Rattle.report.specs.Lines.{refusal_line}
 use Rattle.report.specs.Report.{limited, Turn, goes, stops, form_checks, weights_turn, printed}
-use Rattle.report.specs.Inner.{report_at, line_of, PathAhead, LineAhead, WeightsAre, WeightsTaken, WeightsFound, refused_with}
-use Rattle.report.specs.declared.forms.FormFound.{FormFound}
+use Rattle.report.specs.Inner.{report_on, PathAhead, LineAhead, WeightsAre, WeightsPass, WeightsAt}
 use Rattle.report.proofs.Layouts.{any-stops}
-use Rattle.report.proofs.Turns.{stopped}
+use Rattle.report.proofs.Turns.{stopped, number-some}
 
 -- The checks of a form without weights, and of one with weights.
 module _ (ws : List ℕ) (k : ℕ) where
-  pub checks-none : length ws < 1 → 14 ≡ refusal_of (form_checks ws k)
-  checks-none h = sym (check-fails (check 14 (leb 1 (length ws))) (weight_checks ws k) (lt-leb 1 (length ws) h))
+  pub checks-none : length ws ≡ 0 → 14 ≡ refusal_of (form_checks ws k)
+  checks-none h = sym (check-fails (check 14 (leb 1 (length ws))) (weight_checks ws k) (lt-leb 1 (length ws) (omega arith)))
 
-  pub checks-some : 1 ≤ length ws → refusal_of (weight_checks ws k) ≡ refusal_of (form_checks ws k)
-  checks-some h = sym (check-passes (check 14 (leb 1 (length ws))) (weight_checks ws k) (le-leb 1 (length ws) h))
-
-  -- Their number is at most 14.
-  checks-small : refusal_of (form_checks ws k) ≤ 14
-  unfolding refusal_of
-  checks-small = by-test (leb 1 (length ws)) (all_in_range ws) (fitting ws k)
-    where
-      by-test : (t u v : Bool) → cond t (cond u (cond v 0 14) 5) 14 ≤ 14
-      by-test true true true = omega arith
-      by-test true true false = omega arith
-      by-test true false v = omega arith
-      by-test false u v = omega arith
+  pub checks-some : (length ws ≡ 0 → ⊥) → refusal_of (weight_checks ws k) ≡ refusal_of (form_checks ws k)
+  checks-some h = sym (check-passes (check 14 (leb 1 (length ws))) (weight_checks ws k) (le-leb 1 (length ws) (omega arith)))
 
   -- The first weights are judged by them.
   pub turn-checks : (xs : List ℤ) → weights_turn xs k [] (weights ws) ≡ by_checks (form_checks ws k) stops (goes [] (limited xs k ws))
   unfolding weights_turn by_checks refusal_of
   turn-checks xs = refl
 
-  module _ (input : List ℕ) (at : ℕ) where
+  module _ (more : List ℕ) where
     -- They are refused.
-    taken_not : (c : ℕ) → (c ≡ 0 → ⊥) → c ≤ 14
-        → ((xs : List ℤ) → printed (weights_turn xs k [] (weights ws)) (λ t. report_at t input at) ≡ refusal_line c)
-        → WeightsTaken input ws k at (refused_with c)
-    taken_not c n small h =
-        record {
-          refused = λ z. h;
-          found = λ z. absurd (n z);
-          count = λ z. absurd (n z);
-          weighable = λ z. absurd (n z);
-          within = omega arith;
-          zero = λ z. refl;
-          small = small;
-        }
-
-    pub taken_refused : (c : ℕ) → c ≡ refusal_of (form_checks ws k) → (c ≡ 0 → ⊥) → WeightsTaken input ws k at (refused_with c)
-    taken_refused c e n =
-        taken_not c n (rw e checks-small)
-        (λ xs. stopped _ c _ (turn-checks xs ∙ sym (refuses (form_checks ws k) stops (goes [] (limited xs k ws)) c e n)))
+    pub taken-refused : (r : Refusal) → number_of r ≡ refusal_of (form_checks ws k)
+        → (xs : List ℤ) → printed (weights_turn xs k [] (weights ws)) (λ t. report_on t more) ≡ refusal_line (number_of r)
+    taken-refused r e xs =
+        stopped _ (number_of r) _ (turn-checks xs ∙ sym (refuses (form_checks ws k) stops (goes [] (limited xs k ws)) (number_of r) e (number-some r)))
 
     -- They are accepted, and so there is one.
-    module _ (e : refusal_of (form_checks ws k) ≡ 0) where
+    module _ (e : 0 ≡ refusal_of (form_checks ws k)) where
       some : 1 ≤ length ws
-      some = leb-true 1 (length ws) (passed (check 14 (leb 1 (length ws))) (weight_checks ws k) (omega arith) e).0
+      some = leb-true 1 (length ws) (passed (check 14 (leb 1 (length ws))) (weight_checks ws k) (omega arith) (sym e)).0
 
-      goes_on : (xs : List ℤ) → printed (weights_turn xs k [] (weights ws)) (λ t. report_at t input at) ≡ report_at (limited xs k ws) input at
+      goes_on : (xs : List ℤ) → printed (weights_turn xs k [] (weights ws)) (λ t. report_on t more) ≡ report_on (limited xs k ws) more
       unfolding printed
       goes_on xs =
-          ap (λ (u : Turn). printed u (λ t. report_at t input at))
-          (turn-checks xs ∙ sym (accepts (form_checks ws k) stops (goes [] (limited xs k ws)) e))
+          ap (λ (u : Turn). printed u (λ t. report_on t more))
+          (turn-checks xs ∙ sym (accepts (form_checks ws k) stops (goes [] (limited xs k ws)) (sym e)))
 
       -- The path comes next.
-      pub taken : PathAhead input at → at ≤ length input → WeightsTaken input ws k at (record { refusal = 0; value = length ws; next = at })
-      taken h within =
+      pub taken : PathAhead more → WeightsPass ws k more
+      taken h =
           record {
-            refused = λ z. absurd (z refl);
-            found = λ z xs. goes_on xs ∙ h xs k ws;
-            count = λ z. refl;
-            weighable = λ z few. weighs ws k (passed (check 14 (leb 1 (length ws))) (weight_checks ws k) (omega arith) e).1 (omega arith);
-            within = within;
-            zero = λ z. absurd (z refl);
-            small = omega arith;
+            found = λ xs. goes_on xs ∙ h xs k ws;
+            weighable = λ few. weighs ws k (passed (check 14 (leb 1 (length ws))) (weight_checks ws k) (omega arith) (sym e)).1 (omega arith);
           }
 
-      -- A line that is unended comes next.
-      pub taken-off : ((xs : List ℤ) (k : ℕ) (ws : List ℕ) → report_at (limited xs k ws) input at ≡ refusal_line 11)
-          → WeightsTaken input ws k at (refused_with 11)
-      taken-off h = taken_not 11 (λ z. omega arith) (omega arith) (λ xs. goes_on xs ∙ h xs k ws)
+      -- A line that is refused comes next.
+      pub taken-off : (n : ℕ) → ((xs : List ℤ) (k : ℕ) (ws : List ℕ) → report_on (limited xs k ws) more ≡ refusal_line n)
+          → (xs : List ℤ) → printed (weights_turn xs k [] (weights ws)) (λ t. report_on t more) ≡ refusal_line n
+      taken-off n h xs = goes_on xs ∙ h xs k ws
 
       -- A line comes next that is no note, and no other weights are due.
       second-stops : (xs : List ℤ) (vs : List ℕ) → weights_turn xs k ws (weights vs) ≡ stops 11
@@ -110,16 +80,14 @@ module _ (ws : List ℕ) (k : ℕ) where
           sym (refuses (checks ∷ form_checks vs k) stops (goes [] (limited xs k vs)) 11
           (sym (check-fails checks (form_checks vs k) (ne_eqb (length ws) 0 none))) (λ z. omega arith))
 
-      others-stop : (xs : List ℤ) (from to : ℕ) → LineAhead input at from to
-          → weights_turn xs k ws (form_of (line_of input from to)) ≡ stops 11
+      others-stop : (xs : List ℤ) (l next : List ℕ) → LineAhead more l next → weights_turn xs k ws (form_of l) ≡ stops 11
       unfolding weights_turn
-      others-stop xs from to h =
-          any-stops (weights_turn xs k ws) refl (λ ys. refl) (λ l. refl) (second-stops xs) (λ p q. refl) (line_of input from to) h.no_note
+      others-stop xs l next h =
+          any-stops (weights_turn xs k ws) refl (λ ys. refl) (λ m. refl) (second-stops xs) (λ p q. refl) l h.no_note
 
-      pub taken-line : (from to : ℕ) → LineAhead input at from to → WeightsTaken input ws k at (refused_with 11)
-      taken-line from to h =
-          taken_not 11 (λ z. omega arith) (omega arith)
-          (λ xs. goes_on xs ∙ h.goes_on xs k ws ∙ stopped _ 11 _ (others-stop xs from to h))
+      pub taken-line : (l next : List ℕ) → LineAhead more l next
+          → (xs : List ℤ) → printed (weights_turn xs k [] (weights ws)) (λ t. report_on t more) ≡ refusal_line 11
+      taken-line l next h xs = goes_on xs ∙ h.goes_on xs k ws ∙ stopped _ 11 _ (others-stop xs l next h)
 
 -- What is kept of weights is judged as they are.
 module _ (ws : List ℕ) (k : ℕ) (few : k ≤ max_segments) where
@@ -164,48 +132,27 @@ module _ (ws : List ℕ) (k : ℕ) (few : k ≤ max_segments) where
       (eq-zero-or-pos (refusal_of (form_checks ws k)))
 
 -- The weights that the input goes on with: none, or those of a line, or a refusal.
-module _ (input buffer : List ℕ) (k at : ℕ) (few : k ≤ max_segments) where
-  pub found_none : PathAhead input at → at ≤ length input → WeightsFound input buffer k at (record { refusal = 0; value = 0; next = at })
-  found_none h within =
-      record {
-        refused = λ z. absurd (z refl);
-        found = λ z xs. h xs k [];
-        weighable = λ z. sizes-weigh k (omega arith);
-        in_buffer = omega arith;
-        within = within;
-        small = omega arith;
-      }
-
-  pub found-not : ((xs : List ℤ) → report_at (limited xs k []) input at ≡ refusal_line 11) → WeightsFound input buffer k at (refused_with 11)
-  found-not h =
-      record {
-        refused = λ z. h;
-        found = λ z. absurd (omega arith);
-        weighable = λ z. absurd (omega arith);
-        in_buffer = omega arith;
-        within = omega arith;
-        small = omega arith;
-      }
+module _ (input buffer : List ℕ) (k : ℕ) (few : k ≤ max_segments) where
+  pub found_none : PathAhead input → WeightsAt input buffer k 0 input
+  found_none h =
+      record { found = λ xs. h xs k []; weighable = sizes-weigh k (omega arith); in_buffer = omega arith; shorter = omega arith }
 
   -- A line whose form is weights that are kept at the front of the buffer.
-  pub found-line : (from to n : ℕ) → LineAhead input at from to → WeightsAre (form_of (line_of input from to)) buffer n
-      → (r : FormFound) → WeightsTaken input (take n buffer) k (to + 1) r → WeightsFound input buffer k at r
-  found-line from to n h f r t =
-      let on : (xs : List ℤ) → report_at (limited xs k []) input at
-      ≡ printed (weights_turn xs k [] (weights (take n buffer))) (λ s. report_at s input (to + 1))
-      = λ xs. h.goes_on xs k [] ∙ rw (f.form, f.are) (ap (λ (u : Turn). printed u (λ s. report_at s input (to + 1))) (sym (turn-kept f.all k few xs))) in
-      let same : r.refusal ≡ 0 → r.value ≡ n = λ z. t.count z ∙ length-take-le n buffer f.in_buffer in
-      record {
-        refused = λ z xs. on xs ∙ t.refused z xs;
-        found = λ z xs. rw (same z) (on xs ∙ t.found z xs);
-        weighable = λ z. rw (same z) (t.weighable z few);
-        in_buffer = ⊎_elim (λ (z : r.refusal ≡ 0). omega (arith, same z, f.in_buffer)) (λ (z : 0 < r.refusal). omega (arith, t.zero (λ y. omega arith))) (eq-zero-or-pos r.refusal);
-        within = t.within;
-        small = t.small;
-      }
+  module _ (l more : List ℕ) (n : ℕ) (h : LineAhead input l more) (f : WeightsAre (form_of l) buffer n) where
+    line-goes : (xs : List ℤ) → report_on (limited xs k []) input
+        ≡ printed (weights_turn xs k [] (weights (take n buffer))) (λ s. report_on s more)
+    line-goes xs = h.goes_on xs k [] ∙ rw (f.form, f.are) (ap (λ (u : Turn). printed u (λ s. report_on s more)) (sym (turn-kept f.all k few xs)))
+
+    pub found-refused : (m : ℕ) → ((xs : List ℤ) → printed (weights_turn xs k [] (weights (take n buffer))) (λ t. report_on t more) ≡ refusal_line m)
+        → (xs : List ℤ) → report_on (limited xs k []) input ≡ refusal_line m
+    found-refused m e xs = line-goes xs ∙ e xs
+
+    pub found-line : WeightsPass (take n buffer) k more → WeightsAt input buffer k n more
+    found-line t =
+        record { found = λ xs. line-goes xs ∙ t.found xs; weighable = t.weighable few; in_buffer = f.in_buffer; shorter = h.shorter }
 
   -- A line whose form is none.
-  pub found-other : (from to : ℕ) → LineAhead input at from to
-      → ((xs : List ℤ) (k : ℕ) (ws : List ℕ) → weights_turn xs k ws (form_of (line_of input from to)) ≡ stops 11)
-      → WeightsFound input buffer k at (refused_with 11)
-  found-other from to h o = found-not (λ xs. h.goes_on xs k [] ∙ stopped _ 11 _ (o xs k []))
+  pub found-other : (l more : List ℕ) → LineAhead input l more
+      → ((xs : List ℤ) (k : ℕ) (ws : List ℕ) → weights_turn xs k ws (form_of l) ≡ stops 11)
+      → (xs : List ℤ) → report_on (limited xs k []) input ≡ refusal_line 11
+  found-other l more h o xs = h.goes_on xs k [] ∙ stopped _ 11 _ (o xs k [])

@@ -3,6 +3,8 @@
 // fails ends it without a word: what is printed then lacks lines.
 #![tactic(auto)]
 
+ghost use Rattle.std.specs.Prelude.{◌<◌, ◌^◌};
+
 use std::io;
 
 // A buffer that is one byte too short, one that is just long enough, and a longer one.
@@ -13,12 +15,13 @@ const EXACT: usize = 1232896;
 const LONG: usize = 1232904;
 
 // Makes the call with a buffer of N bytes and prints what came of it.
-fn try_report<const N: usize>(rt: &impl Print, input: &[u8]) -> io::Result<()> {
+fn try_report<const N: usize>(rt: &impl Print, input: &[u8]) -> io::Result<()>
+    requires { N < 2 ^ 63 }
+{
     let mut output = [7u8; N];
     let made = report::report(input, &mut output);
     let kept = output.iter().filter(|byte| **byte == 7).count();
-    println!(
-        rt;
+    println!(rt;
         "buffer of {N}: refusal {}, length {}, bytes kept {kept}",
         made.refusal, made.length,
     )

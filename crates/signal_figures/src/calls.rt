@@ -22,6 +22,7 @@ pub struct Arguments<'a> {
 
 impl<'a> Arguments<'a> {
     // A limit and a penalty, with the least length 1, no weights and all places of each buffer.
+    // Stays: p and q, as the calls under test take them.
     pub fn of(limit: u64, p: u64, q: u64) -> Self {
         Arguments {
             limit,
@@ -49,6 +50,7 @@ impl<'a> Arguments<'a> {
     }
 
     // The same at another penalty.
+    // Stays: p and q, as the calls under test take them.
     pub fn with_penalty(mut self, p: u64, q: u64) -> Self {
         self.p = p;
         self.q = q;

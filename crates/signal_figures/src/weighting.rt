@@ -36,6 +36,7 @@ const KINDS: [Option<Rise>; 5] = [
 ];
 
 // Weights, of which the first are lent.
+// Stays: a buffer with a number beside it, since there is no heap (project rule); `lent` gives the slice.
 #[derive(Clone, Copy)]
 pub struct Weights {
     values: [u64; 40],
@@ -43,8 +44,8 @@ pub struct Weights {
 }
 
 // The weights 1, 2, 3 and so on, which equal the sizes.
-pub fn sizes() -> [u64; 40] {
-    array::from_fn(|i| i as u64 + 1)
+pub fn sizes<const N: usize>() -> [u64; N] {
+    array::from_fn(|i| (i as u64).saturating_add(1))
 }
 
 // What stands in place of a weight that comes after another, from a random number: one out of range, one not above the other, or the
@@ -116,7 +117,10 @@ pub fn check(weights: &[u64], limit: usize) -> Result<(), Refusal> {
     if weights.is_empty() {
         return Ok(());
     }
-    let rising = weights.iter().zip(weights.iter().skip(1)).all(|(a, b)| a < b);
+    let rising = weights
+        .iter()
+        .zip(weights.iter().skip(1))
+        .all(|(a, b)| a < b);
     if weights.len() == limit && rising {
         Ok(())
     } else {

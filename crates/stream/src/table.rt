@@ -64,6 +64,7 @@ impl<'a> Table<'a> {
 
     // Whether marks stand in the first m columns of row k, where they are due. The bits that these values have in common are those of the
     // mark just where each of them is the mark, so that again nothing is decided on the way.
+    // Stays: a walk that ends at the first value that is not as is due.
     fn marks_due(self, k: usize, m: usize) -> bool
         requires { RowIn k m × (m ≤ k) }
         ensures { result ≡ row_due self.entry.bytes.now k m }
@@ -76,6 +77,7 @@ impl<'a> Table<'a> {
     }
 
     // Whether the values of row k in the first n columns are as is due.
+    // Stays: a walk that ends at the first value that is not as is due.
     fn row_due(self, k: usize, n: usize) -> bool
         requires { RowIn k n }
         ensures { result ≡ row_due self.entry.bytes.now k n }
@@ -93,6 +95,7 @@ impl<'a> Table<'a> {
     }
 
     // Whether all values of the first n columns are as is due.
+    // Stays: a walk that ends at the first value that is not as is due.
     pub fn columns_due(self, n: usize) -> bool
         requires { n ≤ max_samples }
         ensures { result ≡ columns_due self.entry.bytes.now n }

@@ -5,7 +5,6 @@
 
 pub mod answer;
 pub mod lists;
-pub mod old;
 pub mod programme;
 pub mod random;
 pub mod sample;

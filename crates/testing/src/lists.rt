@@ -16,6 +16,7 @@ pub struct Model {
 }
 
 impl Model {
+    // Stays: the fields of a model.
     pub fn new(size: u64, loss: u64, weight: u64) -> Self {
         Model { size, loss, weight }
     }
@@ -170,6 +171,7 @@ impl<'a, const N: usize> From<&'a [Model]> for Lists<N> {
 }
 
 // Copies a list to the front of another, as far as both go.
+// Stays: the lists may be of different lengths, which `copy_from_slice` does not take.
 fn copy(from: &[u64], to: &mut [u64]) {
     for (place, value) in to.iter_mut().zip(from) {
         *place = *value;
@@ -177,6 +179,7 @@ fn copy(from: &[u64], to: &mut [u64]) {
 }
 
 // The number of places at which two lists differ, as far as both go.
+// Stays: a count of places, which no method of the library gives.
 pub fn differences<T: PartialEq>(found: &[T], right: &[T]) -> usize {
     found.iter().zip(right).filter(|(a, b)| a != b).count()
 }

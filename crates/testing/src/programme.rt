@@ -35,7 +35,7 @@ impl Sums {
     // ones the lower.
     fn level(&self, from: usize, to: usize) -> Option<u64> {
         let n = to.checked_sub(from)? as u64;
-        let sum = self.sums.get(to)?.checked_sub(*self.sums.get(from)?)?;
+        let sum = between(&self.sums, from, to)?;
         let above = sum.checked_mul(2)?.checked_add(n)?.checked_sub(1)?;
         above.checked_div(n.checked_mul(2)?)
     }
@@ -43,8 +43,8 @@ impl Sums {
     // Their loss at that level: the sum of squares, less twice the level times the sum, and the square of the level for each sample.
     fn loss(&self, from: usize, to: usize) -> Option<u64> {
         let n = to.checked_sub(from)? as u64;
-        let sum = self.sums.get(to)?.checked_sub(*self.sums.get(from)?)?;
-        let square = self.squares.get(to)?.checked_sub(*self.squares.get(from)?)?;
+        let sum = between(&self.sums, from, to)?;
+        let square = between(&self.squares, from, to)?;
         let v = self.level(from, to)?;
         let levels = v.checked_mul(v)?.checked_mul(n)?;
         let both = sum.checked_mul(2)?.checked_mul(v)?;
@@ -53,12 +53,18 @@ impl Sums {
 
     // The losses of all segments that end at sample `to`, by where they start.
     fn losses(&self, to: usize) -> Option<[u64; 512]> {
+        // Stays: no list beside it: it has the losses of the last segments.
         let mut losses = [0; 512];
         for (from, loss) in losses.get_mut(..to)?.iter_mut().enumerate() {
             *loss = self.loss(from, to)?;
         }
         Some(losses)
     }
+}
+
+// The sum from the first `from` as far as `to`, by the sums of the first ones.
+fn between(sums: &[u64; 513], from: usize, to: usize) -> Option<u64> {
+    sums.get(to)?.checked_sub(*sums.get(from)?)
 }
 
 // The start of a last segment, less one, and the loss of all segments with it.
@@ -88,8 +94,8 @@ impl<const ROWS: usize> Cells<ROWS> {
     // The cells of a signal for up to so many segments, where there are so many rows.
     pub fn solve(samples: &[i16], sums: &Sums, limit: usize) -> Option<Self> {
         let mut made = Cells::new();
-        for (i, _) in samples.iter().enumerate() {
-            made.put_column(sums, limit, i.checked_add(1)?)?;
+        for j in 1..=samples.len() {
+            made.put_column(sums, limit, j)?;
         }
         Some(made)
     }
@@ -128,6 +134,7 @@ impl<const ROWS: usize> Cells<ROWS> {
     }
 
     // The best segmentation of a signal with these sums into so many segments.
+    // Stays: a number of segments, and not a list's length.
     pub fn best(&self, samples: &[i16], sums: &Sums, segments: usize) -> Option<Segmentation> {
         let mut ends = [samples.len(); ROWS];
         for k in (0..segments).rev() {

@@ -11,6 +11,7 @@ pub fn in_range(model: Model) -> bool {
 }
 
 // The cost of a model at the penalty p / q, times q, where it is not too large.
+// Stays: p and q, as the calls under test take them.
 fn cost(model: Model, p: u64, q: u64) -> Option<u64> {
     let loss = model.loss.checked_mul(q)?;
     let weight = model.weight.checked_mul(p)?;
@@ -19,6 +20,7 @@ fn cost(model: Model, p: u64, q: u64) -> Option<u64> {
 
 // The cheapest of some models at the penalty p / q, of those that cost the same the smallest. There is none without models, nor where
 // a cost is too large.
+// Stays: p and q, as the calls under test take them.
 pub fn cheapest(models: &[Model], p: u64, q: u64) -> Option<Model> {
     let mut best = *models.first()?;
     let mut least = cost(best, p, q)?;
@@ -39,6 +41,7 @@ fn wins_once(model: Model, other: Model) -> bool {
 
 // Whether the penalty at which a heavier model begins to cost less than a model lies below the one at which this begins to cost less
 // than a lighter one. Of other models nothing is asked. No product is cut, since all are in range.
+// Stays: an early end, before differences that would be cut.
 fn wins_between(model: Model, lighter: Model, heavier: Model) -> bool {
     if model.weight <= lighter.weight || heavier.weight <= model.weight {
         return true;

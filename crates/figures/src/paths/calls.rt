@@ -93,6 +93,7 @@ pub fn print_build(rt: &impl Print, models: Columns<'_>, rooms: Rooms) -> io::Re
 }
 
 // A selection at the penalty p / q from a lent path, and a list of its breakpoints in as many places as there can be.
+// Stays: p and q, as the calls under test take them.
 pub fn print_selection(
     rt: &impl Print,
     lent: Columns<'_>,

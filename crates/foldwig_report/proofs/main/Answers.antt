@@ -1,5 +1,5 @@
 -- The report's length is within the output buffer.
-use Rattle.std.proofs.Common.{◌≡◌, ◌≤◌, length, sym}
+use Rattle.std.proofs.Common.{sym}
 use Rattle.std.proofs.Math.Seq.{length-take-le}
 use Rattle.report.proofs.Wholes.{length-within}
 use Rattle.foldwig_report.proofs.main.Goals as goal

@@ -1,17 +1,16 @@
--- `report::put_answers` answers penalty after penalty. The loop's invariant: the lines up to the present one are answered, and at most
+-- `report::put_answers` answers penalty after penalty. The loop's invariant: the penalties up to what is left are answered, and at most
 -- 75 bytes are written for each byte of them.
-use mathlib.Core.Path.{◌≡◌}
-use Prim.Native.Nat.{◌-◌, ◌≤◌}
-use Rattle.path.specs.Model.{lists, path_of}
-use Rattle.report.specs.Inner.{answers_fit}
+use Rattle.std.proofs.Common.{◌≡◌, ◌+◌, ◌*◌, ◌≤◌, length}
+use Rattle.report.specs.Inner.{answers_end}
 use Rattle.report.proofs.Replies.{Answered}
 use Rattle.report.proofs.put_answers.Given as goal
 
 abbrev pub invariant-loop-p : goal.invariant-loop-p
-invariant-loop-p l =
-    (l.line ≤ lib.ListN.length l.input) × (lib.ListN.length l.output ≡ lib.ListN.length l.initial.output) × (l.length ≤ answers_fit l.line)
-    × Answered l.samples (path_of (lists l.path_sizes l.path_losses l.path_weights) l.entries) l.input l.from l.line l.at l.initial.output l.output l.length
+invariant-loop-p l = record {
+  room : l.place + 75 * length l.left ≤ answers_end;
+  long : length l.output ≡ length l.initial.output;
+  answered : Answered l.solved.signal.samples.now l.solved.signal.max_segments l.solved.weights.now l.input l.left l.at l.initial.output l.output l.place;
+}
 
 abbrev pub decreases-loop-p : goal.decreases-loop-p
-decreases-loop-p l =
-    lib.ListN.length l.input - l.line
+decreases-loop-p l = length l.left

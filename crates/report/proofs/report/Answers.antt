@@ -1,12 +1,12 @@
 -- `report::report` tests the two lengths, and puts a refusal or the report.
-use native.Mathlib.Omega.{arith}
+use Rattle.std.proofs.Common.{arith}
 use Rattle.text.proofs.Prints.{put_as}
 use Rattle.report.proofs.Lengths.{refusal-few}
 use Rattle.report.proofs.Wholes.{text-long, text-short, reported-not, reported}
 use Rattle.report.proofs.report.Goals as goal
 
 pub returns-then-output-lt-OUTPUT_LEN : goal.returns-then-output-lt-OUTPUT_LEN
-returns-then-output-lt-OUTPUT_LEN c = reported-not c.args.input.now c.args.output.now c.if-output-lt-OUTPUT_LEN.true
+returns-then-output-lt-OUTPUT_LEN c = rw c.into.ensures (reported-not c.args.input.now c.args.output.now c.if-output-lt-OUTPUT_LEN.true)
 
 pub put_refusal-length-requires : goal.put_refusal-length-requires
 put_refusal-length-requires c = omega (arith, refusal-few 11 (omega arith), c.if-output-lt-OUTPUT_LEN.false)

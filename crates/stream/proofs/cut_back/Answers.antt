@@ -2,6 +2,7 @@
 -- into `left` segments, are those of the whole signal.
 use mathlib.Core.Path.{◌∙◌}
 use native.Mathlib.Omega.{arith}
+use lib.ListN.{length}
 use mir.Syntax.{w16}
 use mir.Facts.{to_z-of_z}
 use Rattle.stream.specs.SplitFrom.{segment_buffers}
@@ -9,7 +10,7 @@ use Rattle.stream.proofs.Cuts.{cut-start, cut_step, cut-end}
 use Rattle.stream.proofs.cut_back.Goals as goal
 
 pub loop-left-init : goal.loop-left-init
-loop-left-init c = let a = c.args in cut-start a.samples.now a.table.bytes.now a.segments (segment_buffers a.starts.now a.levels.now) c.requires
+loop-left-init c = let a = c.args in cut-start a.samples.now a.table.bytes.now (length a.starts.now) (segment_buffers a.starts.now a.levels.now) c.requires
 
 pub last_segment-last-requires : goal.last_segment-last-requires
 last_segment-last-requires c =
@@ -21,11 +22,11 @@ pub loop-left-preserved : goal.loop-left-preserved
 loop-left-preserved c =
     let a = c.args in
     let l = c.loop-left in
-    cut_step a.samples.now a.table.bytes.now a.segments (segment_buffers a.starts.now a.levels.now) c.requires l.starts l.levels l.left l.to l.loss l.invariant (omega arith) _ _ c.last_segment-last.ensures _
+    cut_step a.samples.now a.table.bytes.now (length a.starts.now) (segment_buffers a.starts.now a.levels.now) c.requires l.starts l.levels l.left l.to l.loss l.invariant (omega arith) _ _ c.last_segment-last.ensures _
     (to_z-of_z {w = w16} (record { sfits = c.segment_level.type_inv }) ∙ c.segment_level.ensures)
 
 pub returns : goal.returns
 returns c =
     let a = c.args in
     let l = c.loop-left in
-    cut-end a.samples.now a.table.bytes.now a.segments (segment_buffers a.starts.now a.levels.now) c.requires l.starts l.levels l.left l.to l.loss l.invariant (omega arith)
+    cut-end a.samples.now a.table.bytes.now (length a.starts.now) (segment_buffers a.starts.now a.levels.now) c.requires l.starts l.levels l.left l.to l.loss l.invariant (omega arith)

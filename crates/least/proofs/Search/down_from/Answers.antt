@@ -1,12 +1,8 @@
 -- `least::Search::down_from` meets its contract. The invariant: of the starts from i on, `start` is the earliest with the greatest gain,
 -- and none before low gains as much. Each turn takes or keeps, or ends the search where no start before i is left. The measure is i.
-use Rattle.std.proofs.Common.{suc, arith}
-use Rattle.least.proofs.Counts.{one_each}
+use Rattle.std.proofs.Common.{arith}
 use Rattle.least.proofs.Searching.{sum_low, down-start, down-end, down-left, down-low, down-next, scan-take, scan-keep}
 use Rattle.least.proofs.Search.down_from.Goals as goal
-
-pub overflow_add-low : goal.overflow_add-low
-overflow_add-low c = let p = c.args.self.now.ready in omega (arith, one_each (suc (suc c.args.self.now.m)) c.args.self.now.signal.min_segment_len p.one, p.some, p.within, p.short)
 
 pub overflow_add-best : goal.overflow_add-best
 overflow_add-best c = record { fits = omega (arith, sum_low c.args.self.now.ready c.requires.at) }

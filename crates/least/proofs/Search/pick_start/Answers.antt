@@ -1,7 +1,6 @@
 -- `least::Search::pick_start` meets its contract: each call has what it requires from those before it.
-use Rattle.std.proofs.Common.{ℕ, suc, List, ℤ, arith}
+use Rattle.std.proofs.Common.{ℕ, List, ℤ, arith}
 use Rattle.least.specs.Inner.{PickFrom, StartAt, TailGain}
-use Rattle.least.proofs.Counts.{one_each}
 use Rattle.least.proofs.Searching.{sum_is, sum_low, none-lost}
 use Rattle.least.proofs.Search.pick_start.Goals as goal
 
@@ -11,9 +10,6 @@ at-hand p e = record { above = p.above; below = p.below; own_is = e }
 
 pub overflow_add-bound : goal.overflow_add-bound
 overflow_add-bound c = record { fits = omega (arith, sum_low c.args.self.now.ready (at-hand c.requires c.gain-own.ensures)) }
-
-pub overflow_add-self : goal.overflow_add-self
-overflow_add-self c = let p = c.args.self.now.ready in omega (arith, one_each (suc (suc c.args.self.now.m)) c.args.self.now.signal.min_segment_len p.one, p.some, p.within, p.short)
 
 pub returns-then-bound-top : goal.returns-then-bound-top
 returns-then-bound-top c =
@@ -27,14 +23,3 @@ pub overflow_sub-top : goal.overflow_sub-top
 overflow_sub-top c =
     let p = c.args.self.now.ready in
     omega (arith, p.squares_are.are c.args.self.now.to (omega (arith, p.within)), sum_is p (at-hand c.requires c.gain-own.ensures))
-
-pub seed_from-seed-requires : goal.seed_from-seed-requires
-seed_from-seed-requires c =
-    let p = c.args.self.now.ready in
-    let l = c.right_limit-limit.ensures in
-    let a = at-hand c.requires c.gain-own.ensures in
-    record {
-      start = a;
-      right_below = l.limited.below;
-      later = λ t h u. omega (arith, l.later t h u, p.squares_are.are c.args.self.now.to (omega (arith, p.within)), sum_is p a);
-    }

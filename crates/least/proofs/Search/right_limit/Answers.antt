@@ -4,7 +4,7 @@ use Rattle.least.proofs.Searching.{limit-stop, limit-end}
 use Rattle.least.proofs.Search.right_limit.Goals as goal
 
 pub returns-then-lost-self : goal.returns-then-lost-self
-returns-then-lost-self c = limit-stop c.args.self.now.ready (omega (arith, c.requires.above)) c.loop-right-test.true c.if-lost-self.true
+returns-then-lost-self c = limit-stop c.args.self.now.ready c.loop-right.invariant (omega arith) c.if-lost-self.true
 
 pub returns : goal.returns
-returns c = limit-end c.requires
+returns c = limit-end c.loop-right.invariant (omega arith)

@@ -1,14 +1,11 @@
 -- `least::Search::seed_from` meets its contract. The invariant: of the starts from i on none is better than s, nor is any between s and
 -- low. The measure is i.
 use Rattle.std.proofs.Common.{arith}
-use Rattle.least.proofs.Searching.{sum_low, right-start, right_end, right-next, right-take, right-left, right-more}
+use Rattle.least.proofs.Searching.{sum_low, right_end, right-next, right-take, right-left, right-more}
 use Rattle.least.proofs.Search.seed_from.Goals as goal
 
 pub overflow_add-bound : goal.overflow_add-bound
 overflow_add-bound c = record { fits = omega (arith, sum_low c.args.self.now.ready c.requires.start) }
-
-pub loop-low-init : goal.loop-low-init
-loop-low-init c = right-start c.args.self.now.ready c.requires
 
 pub overflow_add-self : goal.overflow_add-self
 overflow_add-self c = record { fits = omega (arith, sum_low c.args.self.now.ready (right-next c.args.self.now.ready c.requires c.loop-low.invariant (omega arith) c.gain-tail.ensures)) }

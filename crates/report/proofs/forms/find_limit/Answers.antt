@@ -1,37 +1,29 @@
--- `report::forms::find_limit` takes the next line and reads it as a limit form; whatever else is found is refused.
-use mathlib.Core.Path.{◌∙◌}
-use native.Mathlib.Omega.{arith}
-use Rattle.report.specs.Report.{recorded}
-use Rattle.report.proofs.Turns.{limit-refused, limit-stops, limit-found, ended-limit, settled-off, recorded-settled}
+-- `report::forms::find_limit` takes the next line, reads it as a limit form and judges it; whatever else is found is refused.
+use Rattle.std.proofs.Common.{◌≡◌, ap, ◌∙◌, Some, None, arith}
+use Rattle.path.specs.Numbers.{number_of}
+use Rattle.path.specs.declared.refusal.Refusal.TheVariants.{Layout}
+use Rattle.std.proofs.lemmas.Result.{err_from_is_err_and}
+use Rattle.report.proofs.Turns.{limit-none, limit-stops, limit-refused, limit-found}
 use Rattle.report.proofs.forms.find_limit.Goals as goal
 
-pub slice_bounds-read_limit-count : goal.slice_bounds-read_limit-count
-slice_bounds-read_limit-count c = c.in-At.ensures.order
+pub returns-in_default : goal.returns-in_default
+returns-in_default c = limit-none c.args.input.now c.next_line.result c.next_line.ensures c.in_default.not-Whole
 
-pub read_limit-requires : goal.read_limit-requires
-read_limit-requires c = c.in-At.ensures.no_note
+pub returns-in_err-limit : goal.returns-in_err-limit
+returns-in_err-limit c =
+    let e : c.read_limit.result ≡ None = grind arith in
+    let p = err_from_is_err_and c.from_residual.result c.from_residual.ensures.1 in
+    let s = limit-stops c.args.input.now _ _ c.in-Whole.ensures (rw e at c.read_limit.ensures) in
+    let l : p.0 ≡ Layout = grind (arith, p.2) in
+    rw (p.1, l) s
 
-pub judge_limit-requires : goal.judge_limit-requires
-judge_limit-requires c = omega (arith, c.in-At.ensures.within, c.requires.0)
+pub returns-in_err-check_limit : goal.returns-in_err-check_limit
+returns-in_err-check_limit c =
+    let e : c.read_limit.result ≡ Some c.in_ok-limit.limit = grind arith in
+    let p = err_from_is_err_and c.from_residual-in_err-check_limit.result c.from_residual-in_err-check_limit.ensures.1 in
+    rw p.1 (limit-refused c.args.input.now _ _ c.in-Whole.ensures c.in_ok-limit.limit (rw e at c.read_limit.ensures) p.0 (ap number_of p.2 ∙ c.in_err-check_limit.ensures))
 
-pub returns-in-Value : goal.returns-in-Value
-returns-in-Value c =
-    rw c.judge_limit.ensures (limit-found c.args.input.now c.args.at _ _ c.in-At.ensures _ c.in-Value.ensures)
-
-pub returns-in-Off-read_limit : goal.returns-in-Off-read_limit
-returns-in-Off-read_limit c =
-    let i = c.args.input.now in
-    let stopped = limit-stops i c.args.at _ _ c.in-At.ensures c.in-Off-read_limit.ensures in
-    rw c.refused.ensures (limit-refused i c.args.at stopped)
-
-pub returns-in-Off : goal.returns-in-Off
-returns-in-Off c =
-    let i = c.args.input.now in
-    let at = c.args.at in
-    rw c.refused-in-Off.ensures
-    (limit-refused i at (λ xs. settled-off (recorded xs) (recorded-settled xs) i at _ c.in-Off.ensures))
-
-pub returns-in-End : goal.returns-in-End
-returns-in-End c =
-    rw c.refused-in-End.ensures
-    (limit-refused c.args.input.now c.args.at (λ xs. c.in-End.ensures (recorded xs) ∙ ended-limit xs))
+pub returns : goal.returns
+returns c =
+    let e : c.read_limit.result ≡ Some c.in_ok-limit.limit = grind arith in
+    limit-found c.args.input.now _ _ c.in-Whole.ensures c.in_ok-limit.limit (rw e at c.read_limit.ensures) c.in_ok-check_limit.ensures

@@ -1,47 +1,35 @@
 -- `report::forms::find_weights` looks at what comes next, and reads a line that opens so as a weights form.
-use mathlib.Core.Path.{sym}
-use native.Mathlib.Omega.{arith}
-use lib.Seq.{length-take-le}
-use Rattle.report.proofs.Weighing.{found_none, found-not, found-line, found-other}
+use Rattle.std.proofs.Common.{◌≡◌, Some, None, arith}
+use Rattle.path.specs.declared.refusal.Refusal.TheVariants.{Layout}
+use Rattle.std.proofs.lemmas.Result.{err_from_is_err_and}
+use Rattle.report.proofs.Weighing.{found_none, found-refused, found-line, found-other}
 use Rattle.report.proofs.forms.find_weights.Goals as goal
 
-pub slice_bounds-weights_line-count : goal.slice_bounds-weights_line-count
-slice_bounds-weights_line-count c = c.in-Line.ensures.order
+pub returns-in_default : goal.returns-in_default
+returns-in_default c =
+    found_none c.args.input.now c.args.weights.now c.args.limit c.requires.1 (rw c.in_default.is at c.in_ok-line.ensures)
 
-pub weights_line-requires : goal.weights_line-requires
-weights_line-requires c = (c.requires.0, c.in-Line.ensures.no_note)
-
-pub slice_bounds-take_weights-end : goal.slice_bounds-take_weights-end
-slice_bounds-take_weights-end c = c.in-Count.ensures.in_buffer
-
-pub slice_bounds-take_weights-end-in-Count : goal.slice_bounds-take_weights-end-in-Count
-slice_bounds-take_weights-end-in-Count c = sym (length-take-le _ _ c.in-Count.ensures.in_buffer)
-
-pub overflow_add-end : goal.overflow_add-end
-overflow_add-end c = omega (arith, c.in-Line.ensures.within)
-
-pub take_weights-requires : goal.take_weights-requires
-take_weights-requires c = omega (arith, c.in-Line.ensures.within)
-
-pub returns-in-Path : goal.returns-in-Path
-returns-in-Path c =
+pub returns-in_err-count : goal.returns-in_err-count
+returns-in_err-count c =
     let a = c.args in
-    found_none a.input.now _ a.limit a.at c.requires.1.0 c.in-Path.ensures c.requires.1.1
+    let e : c.read_weights.result ≡ None = grind arith in
+    let p = err_from_is_err_and c.from_residual-in_err-count.result c.from_residual-in_err-count.ensures.1 in
+    let l : p.0 ≡ Layout = grind (arith, p.2) in
+    let ahead = rw c.in-Some.is at c.in_ok-line.ensures in
+    rw (p.1, l) (found-other a.input.now c.read_weights.new.weights a.limit c.requires.1 _ _ ahead (rw e at c.read_weights.ensures))
 
-pub returns-in-Count : goal.returns-in-Count
-returns-in-Count c =
+pub returns-in_err-take_weights : goal.returns-in_err-take_weights
+returns-in_err-take_weights c =
     let a = c.args in
-    let t = c.take_weights in
-    found-line a.input.now _ a.limit a.at c.requires.1.0 _ _ _ c.in-Line.ensures c.in-Count.ensures t.result t.ensures
+    let e : c.read_weights.result ≡ Some c.in_ok-count.count = grind arith in
+    let p = err_from_is_err_and c.from_residual-in_err-take_weights.result c.from_residual-in_err-take_weights.ensures.1 in
+    let ahead = rw c.in-Some.is at c.in_ok-line.ensures in
+    rw (p.1, p.2)
+    (found-refused a.input.now c.read_weights.new.weights a.limit c.requires.1 _ _ c.in_ok-count.count ahead (rw e at c.read_weights.ensures) _ c.in_err-take_weights.ensures)
 
-pub returns-in-Off-weights_line : goal.returns-in-Off-weights_line
-returns-in-Off-weights_line c =
+pub returns : goal.returns
+returns c =
     let a = c.args in
-    rw c.refused.ensures
-    (found-other a.input.now _ a.limit a.at c.requires.1.0 _ _ c.in-Line.ensures c.in-Off-weights_line.ensures)
-
-pub returns-in-Off : goal.returns-in-Off
-returns-in-Off c =
-    let a = c.args in
-    rw c.refused-in-Off.ensures
-    (found-not a.input.now _ a.limit a.at c.requires.1.0 (λ xs. c.in-Off.ensures xs a.limit _))
+    let e : c.read_weights.result ≡ Some c.in_ok-count.count = grind arith in
+    let ahead = rw c.in-Some.is at c.in_ok-line.ensures in
+    found-line a.input.now c.read_weights.new.weights a.limit c.requires.1 _ _ c.in_ok-count.count ahead (rw e at c.read_weights.ensures) c.in_ok-take_weights.ensures

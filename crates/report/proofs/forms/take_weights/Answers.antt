@@ -1,29 +1,28 @@
 -- `report::forms::take_weights` judges the weights, and looks at what comes next.
-use mathlib.Core.Path.{sym, ◌∙◌}
-use Rattle.report.proofs.Weighing.{taken_refused, taken, taken-off, taken-line}
+use Rattle.std.proofs.Common.{ap, ◌∙◌}
+use Rattle.path.specs.Numbers.{number_of}
+use Rattle.std.proofs.lemmas.Result.{err_from_is_err_and}
+use Rattle.report.proofs.Weighing.{taken-refused, taken, taken-off, taken-line}
 use Rattle.report.proofs.forms.take_weights.Goals as goal
 
-pub returns-then-refusal-ne0 : goal.returns-then-refusal-ne0
-returns-then-refusal-ne0 c =
+pub returns-in_err-check_form : goal.returns-in_err-check_form
+returns-in_err-check_form c =
     let a = c.args in
-    let j = c.weights_judged-refusal in
-    rw c.refused.ensures
-    (taken_refused a.weights.now a.limit a.input.now a.next j.result j.ensures c.if-refusal-ne0.true)
+    let p = err_from_is_err_and c.from_residual.result c.from_residual.ensures.1 in
+    rw p.1 (taken-refused a.weights.now a.limit a.rest.now p.0 (ap number_of p.2 ∙ c.in_err-check_form.ensures))
 
-pub returns-in-Path : goal.returns-in-Path
-returns-in-Path c =
+pub returns-in_err-look_ahead : goal.returns-in_err-look_ahead
+returns-in_err-look_ahead c =
     let a = c.args in
-    let e = sym c.weights_judged-refusal.ensures ∙ c.if-refusal-ne0.false in
-    taken a.weights.now a.limit a.input.now a.next e c.in-Path.ensures c.requires
+    let p = err_from_is_err_and c.from_residual-in_err-look_ahead.result c.from_residual-in_err-look_ahead.ensures.1 in
+    rw (p.1, p.2) (taken-off a.weights.now a.limit a.rest.now c.in_ok-check_form.ensures _ c.in_err-look_ahead.ensures)
 
-pub returns-in-Line : goal.returns-in-Line
-returns-in-Line c =
+pub returns-in-None : goal.returns-in-None
+returns-in-None c =
     let a = c.args in
-    let e = sym c.weights_judged-refusal.ensures ∙ c.if-refusal-ne0.false in
-    rw c.refused-in-Line.ensures (taken-line a.weights.now a.limit a.input.now a.next e _ _ c.in-Line.ensures)
+    taken a.weights.now a.limit a.rest.now c.in_ok-check_form.ensures (rw c.in-None.is at c.in_ok-look_ahead.ensures)
 
-pub returns-in-Off : goal.returns-in-Off
-returns-in-Off c =
+pub returns-in-Some : goal.returns-in-Some
+returns-in-Some c =
     let a = c.args in
-    let e = sym c.weights_judged-refusal.ensures ∙ c.if-refusal-ne0.false in
-    rw c.refused-in-Off.ensures (taken-off a.weights.now a.limit a.input.now a.next e c.in-Off.ensures)
+    taken-line a.weights.now a.limit a.rest.now c.in_ok-check_form.ensures _ _ (rw c.in-Some.is at c.in_ok-look_ahead.ensures)

@@ -9,37 +9,37 @@ use Rattle.report.proofs.lines.put_head.Goals as goal
 pub put_text-word-requires : goal.put_text-word-requires
 put_text-word-requires c =
     let a = c.args in
-    omega (arith, head-length a.p a.q a.segments a.loss)
+    omega (arith, head-length a.penalty.p a.penalty.q a.found.size a.found.loss)
 
 pub put_two-penalty-requires : goal.put_two-penalty-requires
 put_two-penalty-requires c =
     let a = c.args in
-    omega (arith, head-length a.p a.q a.segments a.loss)
+    omega (arith, head-length a.penalty.p a.penalty.q a.found.size a.found.loss)
 
 pub put_text-runs-requires : goal.put_text-runs-requires
 put_text-runs-requires c =
     let a = c.args in
-    omega (arith, head-length a.p a.q a.segments a.loss)
+    omega (arith, head-length a.penalty.p a.penalty.q a.found.size a.found.loss)
 
 pub put_number-count-requires : goal.put_number-count-requires
 put_number-count-requires c =
     let a = c.args in
-    omega (arith, head-length a.p a.q a.segments a.loss)
+    omega (arith, head-length a.penalty.p a.penalty.q a.found.size a.found.loss)
 
 pub put_text-second-requires : goal.put_text-second-requires
 put_text-second-requires c =
     let a = c.args in
-    omega (arith, head-length a.p a.q a.segments a.loss)
+    omega (arith, head-length a.penalty.p a.penalty.q a.found.size a.found.loss)
 
 pub put_number-value-requires : goal.put_number-value-requires
 put_number-value-requires c =
     let a = c.args in
-    omega (arith, head-length a.p a.q a.segments a.loss)
+    omega (arith, head-length a.penalty.p a.penalty.q a.found.size a.found.loss)
 
 pub put_byte-requires : goal.put_byte-requires
 put_byte-requires c =
     let a = c.args in
-    omega (arith, head-length a.p a.q a.segments a.loss)
+    omega (arith, head-length a.penalty.p a.penalty.q a.found.size a.found.loss)
 
 pub returns : goal.returns
 unfolding bytes head_text

@@ -7,22 +7,22 @@ use Rattle.report.proofs.Pieces.{model-length}
 use Rattle.report.proofs.lines.put_model.Goals as goal
 
 pub put_text-word-requires : goal.put_text-word-requires
-put_text-word-requires c = omega (arith, model-length c.args.size c.args.loss c.args.given c.args.weight)
+put_text-word-requires c = omega (arith, model-length c.args.entry.size c.args.entry.loss c.args.given c.args.entry.weight)
 
 pub put_number-number-requires : goal.put_number-number-requires
-put_number-number-requires c = omega (arith, model-length c.args.size c.args.loss c.args.given c.args.weight)
+put_number-number-requires c = omega (arith, model-length c.args.entry.size c.args.entry.loss c.args.given c.args.entry.weight)
 
 pub put_text-second-requires : goal.put_text-second-requires
-put_text-second-requires c = omega (arith, model-length c.args.size c.args.loss c.args.given c.args.weight)
+put_text-second-requires c = omega (arith, model-length c.args.entry.size c.args.entry.loss c.args.given c.args.entry.weight)
 
 pub put_number-value-requires : goal.put_number-value-requires
-put_number-value-requires c = omega (arith, model-length c.args.size c.args.loss c.args.given c.args.weight)
+put_number-value-requires c = omega (arith, model-length c.args.entry.size c.args.entry.loss c.args.given c.args.entry.weight)
 
 pub put_weight-third-requires : goal.put_weight-third-requires
-put_weight-third-requires c = omega (arith, model-length c.args.size c.args.loss c.args.given c.args.weight)
+put_weight-third-requires c = omega (arith, model-length c.args.entry.size c.args.entry.loss c.args.given c.args.entry.weight)
 
 pub put_byte-requires : goal.put_byte-requires
-put_byte-requires c = omega (arith, model-length c.args.size c.args.loss c.args.given c.args.weight)
+put_byte-requires c = omega (arith, model-length c.args.entry.size c.args.entry.loss c.args.given c.args.entry.weight)
 
 pub returns : goal.returns
 unfolding bytes model_text

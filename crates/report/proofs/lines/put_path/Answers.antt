@@ -10,7 +10,7 @@ use Rattle.report.proofs.lines.put_path.Goals as goal
 pub put_text-word-requires : goal.put_text-word-requires
 put_text-word-requires c =
     let a = c.args in
-    omega (arith, path-length a.given (path_of (lists a.sizes.now a.losses.now a.weights.now) a.entries))
+    omega (arith, path-length a.given (path_of (lists a.path.now.sizes.now a.path.now.losses.now a.path.now.weights.now) a.entries))
 
 pub put_entries-items-requires : goal.put_entries-items-requires
 put_entries-items-requires c =
@@ -19,18 +19,18 @@ put_entries-items-requires c =
     record {
       places = p.places;
       order = p.order;
-      fits = omega (arith, path-length a.given (path_of (lists a.sizes.now a.losses.now a.weights.now) a.entries));
+      fits = omega (arith, path-length a.given (path_of (lists a.path.now.sizes.now a.path.now.losses.now a.path.now.weights.now) a.entries));
     }
 
 pub put_text-requires : goal.put_text-requires
 put_text-requires c =
     let a = c.args in
-    omega (arith, path-length a.given (path_of (lists a.sizes.now a.losses.now a.weights.now) a.entries))
+    omega (arith, path-length a.given (path_of (lists a.path.now.sizes.now a.path.now.losses.now a.path.now.weights.now) a.entries))
 
 pub returns : goal.returns
 unfolding path_line bytes
 returns c =
     let a = c.args in
-    let entries = entries_text a.given (path_of (lists a.sizes.now a.losses.now a.weights.now) a.entries) in
+    let entries = entries_text a.given (path_of (lists a.path.now.sizes.now a.path.now.losses.now a.path.now.weights.now) a.entries) in
     let front = put_then {u = entries} c.put_text-word.ensures c.put_entries-items.ensures in
     put_then front c.put_text.ensures

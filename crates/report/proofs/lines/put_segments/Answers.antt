@@ -23,25 +23,10 @@ short starts count n i level known h fits =
 
 pub loop-i-init : goal.loop-i-init
 unfolding items_text
-loop-i-init c = (omega arith, refl, put-nothing c.args.output.now c.args.at (omega (arith, c.requires.fits)), omega arith)
+loop-i-init c = (refl, put-nothing c.args.output.now c.args.at (omega (arith, c.requires.fits)), omega arith)
 
 pub last_position-last-requires : goal.last_position-last-requires
-last_position-last-requires c = (c.loop-i-test.true, (c.requires.in_starts, λ h. c.requires.positive (c.loop-i.i + 1) h))
-
-pub offset_bounds-starts-i : goal.offset_bounds-starts-i
-offset_bounds-starts-i c = omega (arith, c.requires.in_starts)
-
-pub bounds-starts-i : goal.bounds-starts-i
-bounds-starts-i c = omega (arith, c.requires.in_starts)
-
-pub overflow_cast-starts : goal.overflow_cast-starts
-overflow_cast-starts c = omega (arith, c.type_inv.starts c.loop-i.i)
-
-pub offset_bounds-levels-i : goal.offset_bounds-levels-i
-offset_bounds-levels-i c = omega (arith, c.requires.in_levels)
-
-pub bounds-levels-i : goal.bounds-levels-i
-bounds-levels-i c = omega (arith, c.requires.in_levels)
+last_position-last-requires c = (c.loop-i-test.true, λ h. c.requires.positive (c.loop-i.i + 1) h)
 
 pub put_segment-place-requires : goal.put_segment-place-requires
 put_segment-place-requires c =
@@ -50,9 +35,9 @@ put_segment-place-requires c =
     let test = c.loop-i-test.true in
     let level = get_or a.levels.now lp.i (pos 0) in
     let fits : mag level < 32768 = omega arith in
-    let few = short a.starts.now a.count a.samples_len lp.i level (λ j. omega (arith, c.type_inv.starts j)) c.requires.short fits in
-    rw (c.last_position-last.ensures, to_z-of_z (record { sfits = fits }))
-    (omega (arith, few, lp.invariant.2.end_is, lp.invariant.3, c.requires.fits))
+    let few = short a.starts.now (length a.starts.now) a.samples_len lp.i level (λ j. omega (arith, c.type_inv.starts j)) c.requires.short fits in
+    rw (c.last_position-last.ensures, c.from.ensures, to_z-of_z (record { sfits = fits }))
+    (omega (arith, few, lp.invariant.1.end_is, lp.invariant.2, c.requires.fits))
 
 pub loop-i-preserved : goal.loop-i-preserved
 loop-i-preserved c =
@@ -61,20 +46,19 @@ loop-i-preserved c =
     let u = c.put_segment-place in
     let level = get_or a.levels.now lp.i (pos 0) in
     let fits : mag level < 32768 = omega arith in
-    let few = short a.starts.now a.count a.samples_len lp.i level (λ j. omega (arith, c.type_inv.starts j)) c.requires.short fits in
-    let so_far = items_text a.starts.now a.levels.now a.count a.samples_len lp.i in
-    let next = segment_text (get_or a.starts.now lp.i 0) (last_of a.starts.now a.count a.samples_len lp.i) level in
-    let more = items_more a.starts.now a.levels.now a.count a.samples_len lp.i in
-    let put = rw (c.last_position-last.ensures, to_z-of_z (record { sfits = fits })) at u.ensures in (
-      omega arith,
+    let few = short a.starts.now (length a.starts.now) a.samples_len lp.i level (λ j. omega (arith, c.type_inv.starts j)) c.requires.short fits in
+    let so_far = items_text a.starts.now a.levels.now (length a.starts.now) a.samples_len lp.i in
+    let next = segment_text (get_or a.starts.now lp.i 0) (last_of a.starts.now (length a.starts.now) a.samples_len lp.i) level in
+    let more = items_more a.starts.now a.levels.now (length a.starts.now) a.samples_len lp.i in
+    let put = rw (c.last_position-last.ensures, c.from.ensures, to_z-of_z (record { sfits = fits })) at u.ensures in (
       omega (arith, u.auto),
-      put_as (sym more) (put_then lp.invariant.2 put),
-      rw (more, length-append so_far next) (omega (arith, few, lp.invariant.3)),
+      put_as (sym more) (put_then lp.invariant.1 put),
+      rw (more, length-append so_far next) (omega (arith, few, lp.invariant.2)),
     )
 
 pub returns : goal.returns
 returns c =
     let a = c.args in
     let lp = c.loop-i in
-    let e : lp.i ≡ a.count = omega arith in
-    record { put = rw e at lp.invariant.2; short = rw e at lp.invariant.3 }
+    let e : lp.i ≡ (length a.starts.now) = omega arith in
+    record { put = rw e at lp.invariant.1; short = rw e at lp.invariant.2 }

@@ -1,23 +1,21 @@
--- `text::notes::is_note` looks at what a line begins with, and at whether its first bracket closes at its end.
-use Rattle.std.proofs.Common.{◌≡◌, ◌-◌, ◌∙◌, refl, sym, length, drop, take, take_all, length-drop, arith}
+-- `text::notes::is_note` skips the form that the line begins with: the line is a note if that ends where the line does.
+use mathlib.Core.Path.{refl, sym, ◌∙◌}
+use native.Mathlib.Omega.{arith}
 use Rattle.text.specs.Notes.{is_note}
+use Rattle.text.proofs.Nests.{ends_there}
 use Rattle.text.proofs.Readings.{begins-long}
 use Rattle.text.proofs.notes.is_note.Goals as goal
 
-pub slice_bounds-closes_bracket-count : goal.slice_bounds-closes_bracket-count
-slice_bounds-closes_bracket-count c = begins-long c.args.line.now (sym c.begins_note.ensures ∙ c.if-begins_note.true)
-
-pub slice_bounds-closes_bracket-start : goal.slice_bounds-closes_bracket-start
-slice_bounds-closes_bracket-start c = begins-long c.args.line.now (sym c.begins_note.ensures ∙ c.if-begins_note.true)
+pub skip_form-requires : goal.skip_form-requires
+skip_form-requires c =
+    let long = begins-long c.args.line.now (sym c.begins_note.ensures ∙ c.if-begins_note.true) in
+    (omega arith, omega (arith, long))
 
 pub returns-then-begins_note : goal.returns-then-begins_note
 unfolding is_note
 returns-then-begins_note c =
-    let l = c.args.line.now in
     let begun = sym c.begins_note.ensures ∙ c.if-begins_note.true in
-    let some = begins-long l begun in
-    let rest : take (length l - 1) (drop 1 l) ≡ drop 1 l = take_all _ _ (omega (arith, length-drop 1 l)) in
-    rw (begun, ← rest) c.closes_bracket.ensures
+    rw begun (c.eq.ensures ∙ sym (c.skip_form.ensures.means ∙ ends_there c.args.line.now c.skip_form.result c.skip_form.ensures.past))
 
 pub returns-else-begins_note : goal.returns-else-begins_note
 unfolding is_note
