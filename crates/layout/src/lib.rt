@@ -158,12 +158,3 @@ pub fn put(bytes: &mut [u8], at: usize, width: usize, value: u64)
         rest /= 256;
     }
 }
-
-// Until byte_streams calls `read_items`.
-pub fn read_i16s(bytes: &[u8], items: &mut [i16])
-    requires { 2 * length items.old ≤ length bytes.now }
-    ensures { items.new
-        ≡ map signed_of (items_to 2 bytes.now (length items.old)) }
-{
-    read_items::<2, i16>(bytes, items);
-}
