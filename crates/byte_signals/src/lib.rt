@@ -118,6 +118,7 @@ fn path_items(
         path_weight_items,
         scratch,
     );
+    // Stays: the number, because README names `signal::signal_path`, whose answer has a refusal by its number.
     if found.refusal != 0 {
         return found;
     }
@@ -250,6 +251,7 @@ fn split_items(
         path_weight_items,
         scratch,
     );
+    // Stays: the number, because README names `signal::split`, whose answer has a refusal by its number.
     if split.refusal != 0 {
         return split;
     }
