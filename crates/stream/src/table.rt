@@ -78,7 +78,7 @@ impl<'a> Table<'a> {
 
     // Whether the values of row k in the first n columns are as is due. It looks from the last place back, and ends at the first that is
     // not.
-    // Stays: a `for` that returns, as `all` over places from the last one back is no plainer.
+    // Stays: a `for` that returns, as the library has no law of `all` over a range turned round.
     fn row_due(self, k: usize, n: usize) -> bool
         requires { RowIn k n }
         ensures { result ≡ row_due self.entry.bytes.now k n }

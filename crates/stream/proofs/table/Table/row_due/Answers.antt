@@ -12,7 +12,7 @@ returns-then-not-marks_due c =
     sym (row-fails a.self.bytes.now a.k _ a.n (omega arith) (sym c.marks_due.ensures ∙ c.if-not-marks_due.true))
 
 pub loop-j-init : goal.loop-j-init
-loop-j-init c = (c.unsure_to.ensures.most, c.unsure_to.ensures.rest)
+loop-j-init c = (c.unsure_to-j.ensures.most, c.unsure_to-j.ensures.rest)
 
 pub returns-then-not-cell_due : goal.returns-then-not-cell_due
 returns-then-not-cell_due c =
