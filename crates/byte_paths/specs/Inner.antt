@@ -1,7 +1,7 @@
 -- What the inner functions ask for. A reader of the calls need not believe anything that stands here.
 use Rattle.std.specs.Prelude.{◌≡◌, List, [], ◌∷◌, ℕ, suc, ◌+◌, ◌%◌, length}
 use Rattle.layout.specs.Items.{items_of, bytes_of}
-use Rattle.coding.specs.Coding.{Outcome, encoded_over}
+use Rattle.coding.specs.Coding.{Outcome, encoded_over, on_bytes}
 use Rattle.coding.specs.Models.{models_coding}
 use Rattle.coding.specs.Inner.{ListsFit}
 use Rattle.path.specs.Model.{Model, Lists, lists, path_of, values_of}
@@ -9,13 +9,18 @@ use Rattle.path.specs.Update.{Fraction, path_breakpoints}
 use Rattle.path.specs.Buffer.{overwritten}
 use Rattle.path.specs.declared.PathResult.{PathResult}
 use Rattle.path.specs.Refusal.{max_models}
+use Rattle.build.specs.Inner.{build_with}
 use Rattle.select.specs.Inner.{Listable}
 use Rattle.select.specs.declared.BreakpointsResult.{BreakpointsResult}
-use Rattle.byte_paths.specs.Paths.{path_answers, append_call, Fractions, fractions_coding, breakpoints_answers, breakpoints_call}
+use Rattle.byte_paths.specs.Paths.{path_answers, path_told, append_call, Fractions, fractions_coding, breakpoints_answers, breakpoints_call}
 
 -- How many models a build looks at.
 abbrev pub models_read : ℕ
 models_read = max_models + 1
+
+-- A build of three lists into three buffers by a method, which gives the path of so many models and the tests that are counted for it.
+abbrev pub build_bytes_with : (Lists → ℕ → List Model) → (Lists → ℕ → ℕ) → Lists → Lists → Outcome PathResult Lists
+build_bytes_with path tests = on_bytes models_coding models_coding path_answers (λ x b. path_told (build_with path tests x b))
 
 -- The last entry of a path, where it has one, is the model m.
 abbrev pub LastIs : List Model → Model → Type 0

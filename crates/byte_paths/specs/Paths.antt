@@ -5,7 +5,6 @@ use Rattle.coding.specs.Models.{models_coding}
 use Rattle.path.specs.Model.{Model, Lists}
 use Rattle.path.specs.Append.{PathOutcome, append_of}
 use Rattle.path.specs.declared.PathResult.{PathResult}
-use Rattle.build.specs.Inner.{build_with}
 use Rattle.quadratic.specs.Quadratic.{build_by}
 use Rattle.select.specs.Select.{select_refused, select_of}
 use Rattle.select.specs.declared.SelectResult.{SelectResult}
@@ -38,10 +37,6 @@ build_call older x b = path_told (build_by older x b)
 
 abbrev pub build_bytes_by : Bool → Lists → Lists → Outcome PathResult Lists
 build_bytes_by older = on_bytes models_coding models_coding path_answers (build_call older)
-
--- The same by a method, which gives the path of so many models and the tests that are counted for it.
-abbrev pub build_bytes_with : (Lists → ℕ → List Model) → (Lists → ℕ → ℕ) → Lists → Lists → Outcome PathResult Lists
-build_bytes_with path tests = on_bytes models_coding models_coding path_answers (λ x b. path_told (build_with path tests x b))
 
 abbrev pub build_bytes_of : Lists → Lists → Outcome PathResult Lists
 build_bytes_of = build_bytes_by false

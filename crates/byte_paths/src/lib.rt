@@ -11,8 +11,8 @@ ghost use Rattle.path.specs.Model.{model, lists};
 ghost use Rattle.path.specs.Update.{Fraction};
 ghost use Rattle.path.specs.Inner.{model_of, answer_of};
 ghost use Rattle.select.specs.Inner.{listed_as};
-ghost use Rattle.byte_paths.specs.Paths.{append_bytes_of, build_bytes_with, select_bytes_of, fractions, fractions_coding, breakpoints_bytes_of};
-ghost use Rattle.byte_paths.specs.Inner.{BuildFits, append_encoded, breakpoints_encoded, ListableIn, WrittenIn};
+ghost use Rattle.byte_paths.specs.Paths.{append_bytes_of, select_bytes_of, fractions, fractions_coding, breakpoints_bytes_of};
+ghost use Rattle.byte_paths.specs.Inner.{BuildFits, build_bytes_with, append_encoded, breakpoints_encoded, ListableIn, WrittenIn};
 
 use build::Method;
 use coding::{ByteColumns, store_item, write_models};
@@ -187,7 +187,7 @@ pub fn select(
 
 // Writes so many breakpoints, which are those of a path of one entry more. They go by losses and weights.
 // Stays: a number beside two buffers, which may be longer.
-fn write_breakpoints(
+pub fn write_breakpoints(
     models: &ByteColumns,
     count: usize,
     numerators: &mut [u8],

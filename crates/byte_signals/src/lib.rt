@@ -255,13 +255,13 @@ fn split_items(
     if split.refusal != 0 {
         return split;
     }
+    write_segments(starts, levels, start_items, level_items);
     let path = Columns {
         sizes: size_items,
         losses: loss_items,
         weights: path_weight_items,
     };
     write_models(path_sizes, path_losses, path_weights, &path);
-    write_segments(starts, levels, start_items, level_items);
     split
 }
 

@@ -9,7 +9,7 @@ ghost use Rattle.path.specs.Buffer.{overwritten_to};
 ghost use Rattle.coding.specs.Models.{models_coding};
 ghost use Rattle.coding.specs.Inner.{strings_of, Storable, Holds, HoldsModels, ModelsRead, ModelsWritten, SegmentsRead, SegmentsWritten};
 
-use layout::{Item, item_at, read_items, write_items};
+use layout::{Item, item_at, put, read_items, write_items};
 use path::storage::{Columns, Models};
 
 // Models or a path in three byte strings: sizes and weights in two bytes each, losses in eight.
@@ -118,4 +118,18 @@ pub fn store_item<const W: usize, T: Item<W>>(bytes: &mut [u8], kept: usize, n: 
     value.put(bytes, W * kept);
     let after = W * (kept + 1);
     bytes[after..after.max(W * n)].fill(0);
+}
+
+// Puts a value after the first items of `width` bytes, which stay, and zeros after it as far as item n.
+// Stays: the width as an argument, as in `layout::put`.
+pub fn store(bytes: &mut [u8], width: usize, kept: usize, n: usize, value: u64)
+    requires { Storable width bytes.old kept n }
+    ensures { bytes.new ≡ bytes_of width (overwritten_to
+        (take kept (items_of width bytes.old) ++ (value ∷ []))
+        n
+        (items_of width bytes.old)) }
+{
+    put(bytes, width * kept, width, value);
+    let after = width * (kept + 1);
+    bytes[after..after.max(width * n)].fill(0);
 }

@@ -158,3 +158,25 @@ pub fn put(bytes: &mut [u8], at: usize, width: usize, value: u64)
         rest /= 256;
     }
 }
+
+// Reads as many items of `width` bytes as the list has places.
+// Stays: as `get`.
+pub fn get_items(bytes: &[u8], width: usize, items: &mut [u64])
+    requires { (width ≤ 8) × (width * length items.old ≤ length bytes.now) }
+    ensures { items.new ≡ items_to width bytes.now (length items.old) }
+{
+    for (i, item) in items.iter_mut().enumerate() {
+        *item = get(bytes, width * i, width);
+    }
+}
+
+// Writes a list of items of `width` bytes to the front of a byte string, whose rest stays.
+// Stays: as `get`.
+pub fn put_items(bytes: &mut [u8], width: usize, items: &[u64])
+    requires { width * length items.now ≤ length bytes.old }
+    ensures { bytes.new ≡ bytes_of width items.now ++ drop (width * length items.now) bytes.old }
+{
+    for (i, item) in items.iter().enumerate() {
+        put(bytes, width * i, width, *item);
+    }
+}

@@ -1,11 +1,12 @@
 // The report call with output buffers one byte too short, just long enough and longer: the refusal, the length of the text, and
 // how many bytes of the buffer still hold the 7 that they held before. The texts themselves are compared by tests/report. A write that
-// fails ends it without a word: what is printed then lacks lines.
+// fails goes without a word: what is printed then lacks it.
 #![tactic(auto)]
 
 ghost use Rattle.std.specs.Prelude.{◌<◌, ◌^◌};
 
 use std::io;
+use testing::output::Steady;
 
 // A buffer that is one byte too short, one that is just long enough, and a longer one.
 const SHORT: usize = 1232895;
@@ -14,7 +15,8 @@ const EXACT: usize = 1232896;
 
 const LONG: usize = 1232904;
 
-// Makes the call with a buffer of N bytes and prints what came of it.
+// Makes the call with a buffer of N bytes and prints what came of it. It is not inlined, so that no two of the buffers are there at once.
+#[inline(never)]
 fn try_report<const N: usize>(rt: &impl Print, input: &[u8]) -> io::Result<()>
     requires { N < 2 ^ 63 }
 {
@@ -39,5 +41,5 @@ fn run(rt: &impl Print) -> io::Result<()> {
 }
 
 fn main(rt: HostRuntime) {
-    let _ = run(&rt);
+    let _ = run(&Steady(&rt));
 }

@@ -76,20 +76,36 @@ impl<'a> Table<'a> {
         common == MARK
     }
 
-    // Whether the values of row k in the first n columns are as is due.
+    // Whether the values of row k in the first n columns are as is due. It looks from the last place back, and ends at the first that is
+    // not.
+    // Stays: a `for` that returns, as the library has no law of `all` over a range turned round.
     fn row_due(self, k: usize, n: usize) -> bool
         requires { RowIn k n }
         ensures { result ≡ row_due self.entry.bytes.now k n }
     {
         let marks = k.min(n);
-        self.marks_due(k, marks) && (marks..self.unsure_to(k, n)).all(|j| self.cell_due(k, j + 1))
+        if !self.marks_due(k, marks) {
+            return false;
+        }
+        for j in (marks..self.unsure_to(k, n)).rev() {
+            if !self.cell_due(k, j + 1) {
+                return false;
+            }
+        }
+        true
     }
 
-    // Whether all values of the first n columns are as is due.
+    // Whether all values of the first n columns are as is due. It looks from the last row back, and ends at the first that is not.
     pub fn columns_due(self, n: usize) -> bool
         requires { n ≤ max_samples }
         ensures { result ≡ columns_due self.entry.bytes.now n }
     {
-        (0..MAX_ROWS).all(|k| self.row_due(k, n))
+        // Stays: as in `row_due`.
+        for k in (0..MAX_ROWS).rev() {
+            if !self.row_due(k, n) {
+                return false;
+            }
+        }
+        true
     }
 }

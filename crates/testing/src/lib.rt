@@ -5,6 +5,7 @@
 
 pub mod answer;
 pub mod lists;
+pub mod output;
 pub mod programme;
 pub mod random;
 pub mod sample;

@@ -62,7 +62,9 @@ pub struct Lists<const N: usize> {
 }
 
 impl<const N: usize> Lists<N> {
-    // Lists with a number at every place.
+    // Lists with a number at every place. They are made in a frame of their own, as in what makes lists below, so that of large ones no
+    // second copy stays on the caller's stack.
+    #[inline(never)]
     pub fn of(value: u64) -> Self {
         Lists {
             sizes: [value; N],
@@ -150,6 +152,7 @@ impl<const N: usize> Lists<N> {
 
 impl<'a, const N: usize> From<Columns<'a>> for Lists<N> {
     // Lists with these at the front, as far as there are places, and else as before a call.
+    #[inline(never)]
     fn from(front: Columns<'a>) -> Self {
         let mut made = Lists::marks();
         copy(front.sizes, &mut made.sizes);
@@ -161,6 +164,7 @@ impl<'a, const N: usize> From<Columns<'a>> for Lists<N> {
 
 impl<'a, const N: usize> From<&'a [Model]> for Lists<N> {
     // Lists with these models at the front, as far as there are places, and else as before a call.
+    #[inline(never)]
     fn from(models: &'a [Model]) -> Self {
         let mut made = Lists::marks();
         for (i, model) in models.iter().enumerate() {

@@ -1,8 +1,12 @@
 -- `quadratic::find_nearest` meets its contract. The loop's invariant: `best` is the place of the nearest of the first i models.
-use Rattle.path.specs.Model.{model_at}
-use Rattle.build.specs.Inner.{lists_of}
+use mathlib.Core.List.{List}
+use Prim.Native.Nat.{ℕ, ◌-◌, ◌≤◌, ◌<◌}
+use Rattle.path.specs.Model.{lists, model_at}
 use Rattle.quadratic.specs.Inner.{NearestAt}
 use Rattle.quadratic.proofs.find_nearest.Given as goal
 
 abbrev pub invariant-loop-i : goal.invariant-loop-i
-invariant-loop-i l = NearestAt (lists_of l.models) (model_at (lists_of l.models) l.at) l.i l.best
+invariant-loop-i l = (l.i ≤ l.at) × (l.best < l.i) × ((s : List ℕ) → NearestAt (lists s l.losses l.weights) (model_at (lists s l.losses l.weights) l.at) l.i l.best)
+
+abbrev pub decreases-loop-i : goal.decreases-loop-i
+decreases-loop-i l = l.at - l.i

@@ -1,14 +1,25 @@
--- `stream::Table::columns_due` meets its contract: std's test of all rows is the definition.
-use mathlib.Core.Path.{refl, ◌∙◌}
-use borrow.Author.Tests.{tests}
-use Rattle.std.proofs.Common.{rules}
-use Rattle.std.proofs.lemmas.Iterator.{YieldsList-from_range}
-use Rattle.std.proofs.lemmas.Iterator.Search.{all_from_yields_List}
-use Rattle.stream.specs.Table.{max_rows, row_due}
-use Rattle.stream.proofs.Due.{rows-range}
+-- `stream::Table::columns_due` meets its contract. The invariant: the columns are as is due if their first k rows are.
+use mathlib.Core.Path.{◌≡◌, refl, sym, ◌∙◌, ap}
+use native.Mathlib.Omega.{arith}
+use Rattle.stream.specs.Table.{rows_due}
+use Rattle.stream.proofs.Due.{rows_none, rows_back, rows-stop}
 use Rattle.stream.proofs.table.Table.columns_due.Goals as goal
+
+pub loop-k-init : goal.loop-k-init
+loop-k-init c = (omega arith, refl)
+
+pub returns-then-not-row_due : goal.returns-then-not-row_due
+returns-then-not-row_due c =
+    let t = c.args.self.bytes.now in
+    sym (c.loop-k.invariant.1 ∙ rows-stop t c.args.n c.loop-k.k (omega arith) (sym c.row_due.ensures ∙ c.if-not-row_due.true))
+
+pub loop-k-preserved : goal.loop-k-preserved
+loop-k-preserved c =
+    let t = c.args.self.bytes.now in
+    (omega arith, c.loop-k.invariant.1 ∙ rows_back t c.args.n c.loop-k.k (omega arith) (sym c.row_due.ensures ∙ c.if-not-row_due.false))
 
 pub returns : goal.returns
 returns c =
     let t = c.args.self.bytes.now in
-    all_from_yields_List (λ k. row_due t k c.args.n) _ _ _ c.all.ensures.ran (YieldsList-from_range 0 max_rows max_rows refl refl) (λ x b q k. search (rules, tests)) ∙ rows-range t c.args.n
+    let e : c.loop-k.k ≡ 0 = omega arith in
+    sym (c.loop-k.invariant.1 ∙ ap (rows_due t c.args.n) e ∙ rows_none t c.args.n)

@@ -1,26 +1,36 @@
--- `stream::Table::row_due` meets its contract: the marks, and std's test of the values that have to be looked at.
-use mathlib.Core.Path.{refl, sym, ◌∙◌}
+-- `stream::Table::row_due` meets its contract. The invariant: the row is as is due if its first j values are.
+use mathlib.Core.Path.{◌≡◌, ap, sym, ◌∙◌}
 use Prim.Native.Nat.{◌+◌, ◌-◌}
 use native.Mathlib.Omega.{arith}
-use borrow.Author.Tests.{tests}
-use Rattle.std.proofs.Common.{rules}
-use Rattle.std.proofs.lemmas.Iterator.{YieldsList-from_range}
-use Rattle.std.proofs.lemmas.Iterator.Search.{all_from_yields_List}
 use Rattle.stream.specs.Table.{cell_due}
-use Rattle.stream.proofs.Due.{row-fails, row-range}
+use Rattle.stream.proofs.Due.{row_back, row-stops, row-front, row-fails}
 use Rattle.stream.proofs.table.Table.row_due.Goals as goal
 
-pub returns-then-marks_due : goal.returns-then-marks_due
-returns-then-marks_due c =
+pub returns-then-not-marks_due : goal.returns-then-not-marks_due
+returns-then-not-marks_due c =
+    let a = c.args in
+    sym (row-fails a.self.bytes.now a.k _ a.n (omega arith) (sym c.marks_due.ensures ∙ c.if-not-marks_due.true))
+
+pub loop-j-init : goal.loop-j-init
+loop-j-init c = (c.unsure_to-j.ensures.most, c.unsure_to-j.ensures.rest)
+
+pub returns-then-not-cell_due : goal.returns-then-not-cell_due
+returns-then-not-cell_due c =
     let a = c.args in
     let t = a.self.bytes.now in
-    let m = c.min-marks.result in
-    let u = c.unsure_to.result in
-    all_from_yields_List (λ j. cell_due t a.k (j + 1)) _ _ _ c.all.ensures.ran (YieldsList-from_range m u (u - m) refl refl) (λ x b q k. search (rules, tests))
-    ∙ row-range t a.k m u (sym c.marks_due.ensures ∙ c.if-marks_due.true)
-    ∙ sym c.unsure_to.ensures.rest
+    let j = c.loop-j.j in
+    let p : j ≡ j - 1 + 1 = omega arith in
+    sym (c.loop-j.invariant.1 ∙ row-stops t a.k j (omega arith) (ap (cell_due t a.k) p ∙ sym c.cell_due.ensures ∙ c.if-not-cell_due.true))
 
-pub returns-else-marks_due : goal.returns-else-marks_due
-returns-else-marks_due c =
+pub loop-j-preserved : goal.loop-j-preserved
+loop-j-preserved c =
     let a = c.args in
-    c.if-marks_due.false ∙ sym (row-fails a.self.bytes.now a.k _ a.n (omega arith) (sym c.marks_due.ensures ∙ c.if-marks_due.false))
+    let t = a.self.bytes.now in
+    let j = c.loop-j.j in
+    let p : j ≡ j - 1 + 1 = omega arith in
+    (omega (arith, c.loop-j.invariant.0), c.loop-j.invariant.1 ∙ row_back t a.k j (omega arith) (ap (cell_due t a.k) p ∙ sym c.cell_due.ensures ∙ c.if-not-cell_due.false))
+
+pub returns : goal.returns
+returns c =
+    let a = c.args in
+    sym (c.loop-j.invariant.1 ∙ row-front a.self.bytes.now a.k c.loop-j.j _ (omega arith) (sym c.marks_due.ensures ∙ c.if-not-marks_due.false))
