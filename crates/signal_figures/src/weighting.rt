@@ -35,12 +35,12 @@ const KINDS: [Option<Rise>; 5] = [
     Some(Rise::OneOrMuch),
 ];
 
-// Weights, of which the first are lent.
-// Stays: a buffer with a number beside it, since there is no heap (project rule); `lent` gives the slice.
+// Weights, of which the first are given.
+// Stays: a buffer with a number beside it, since there is no heap (project rule); `slice` gives these.
 #[derive(Clone, Copy)]
 pub struct Weights {
     values: [u64; 40],
-    lent: usize,
+    count: usize,
 }
 
 // The weights 1, 2, 3 and so on, which equal the sizes.
@@ -65,7 +65,7 @@ impl Weights {
     pub fn draw(limit: usize, x: u64) -> Self {
         let mut made = Weights {
             values: [MARK; 40],
-            lent: 0,
+            count: 0,
         };
         if let Some(rise) = KINDS[(x % 5) as usize] {
             let mut y = next(x);
@@ -75,22 +75,26 @@ impl Weights {
                 weight = weight.saturating_add(rise.draw(y));
                 *value = weight;
             }
-            made.lent = limit;
+            made.count = limit;
         }
         made
     }
 
-    // Those that are lent, where there are so many.
-    pub fn lent(&self) -> Option<&[u64]> {
-        self.values.get(..self.lent)
+    // Those that are given, where there are so many.
+    pub fn slice(&self) -> Option<&[u64]> {
+        self.values.get(..self.count)
     }
 
     // The weight of each size.
     pub fn right(&self) -> [u64; 40] {
-        if self.lent == 0 { sizes() } else { self.values }
+        if self.count == 0 {
+            sizes()
+        } else {
+            self.values
+        }
     }
 
-    // The same with one of as many weights as a limit damaged, and at times with one more of them lent or one fewer.
+    // The same with one of as many weights as a limit damaged, and at times with one more of them given or one fewer.
     pub fn damage(&self, limit: usize, x: u64) -> Option<Self> {
         let y = next(x);
         let i = (y as usize).checked_rem(limit)?;
@@ -101,8 +105,8 @@ impl Weights {
         let mut made = *self;
         let place = made.values.get_mut(i)?;
         *place = damaged(before, *place, x);
-        made.lent = self
-            .lent
+        made.count = self
+            .count
             .saturating_add((y / 64 % 3) as usize)
             .saturating_sub(1);
         Some(made)
