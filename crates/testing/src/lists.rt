@@ -62,8 +62,8 @@ pub struct Lists<const N: usize> {
 }
 
 impl<const N: usize> Lists<N> {
-    // Lists with a number at every place. They are made in a frame of their own, as in what makes lists below, so that of large ones no
-    // second copy stays on the caller's stack.
+    // Lists with a number at every place. They are made in a frame of their own, as in what makes lists below, so that of large ones fewer
+    // copies stay on the caller's stack.
     #[inline(never)]
     pub fn of(value: u64) -> Self {
         Lists {
